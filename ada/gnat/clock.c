@@ -46,9 +46,7 @@ int64_t present(void) { return present_nanoseconds() / NANOSECONDS; }
 
 void tick_to(int64_t now) {
   uint64_t at;
-  int32_t code;
-  note_change_of_all();
-  code = ada_tick(&kernel, now, &at);
+  int32_t code = ada_tick(&kernel, now, &at);
   if (code) {
     refuse(NULL, code, "a tick");
     return;

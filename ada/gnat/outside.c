@@ -11,6 +11,7 @@
 #include <stdlib.h>
 #include <sys/syscall.h>
 #include <sys/time.h>
+#include <threads.h>
 #include <time.h>
 #include <unistd.h>
 
@@ -45,16 +46,16 @@ static any_function find_real(const char *name) {
   return found.function;
 }
 
-/* Declares a function that finds the C library's own, once. */
+/* Declares a function that finds the C library's own, once. In a program that is linked statically there is none. */
 #define REAL(name)                                                            \
   static any_function real_##name(void) {                                     \
     static any_function found;                                                \
-    any_function it = __atomic_load_n(&found, __ATOMIC_RELAXED);              \
-    if (!it) {                                                                \
-      it = find_real(#name);                                                  \
-      __atomic_store_n(&found, it, __ATOMIC_RELAXED);                         \
+    static bool is_looked_for;                                                \
+    if (!__atomic_load_n(&is_looked_for, __ATOMIC_ACQUIRE)) {                 \
+      __atomic_store_n(&found, find_real(#name), __ATOMIC_RELAXED);           \
+      __atomic_store_n(&is_looked_for, true, __ATOMIC_RELEASE);               \
     }                                                                         \
-    return it;                                                                \
+    return __atomic_load_n(&found, __ATOMIC_RELAXED);                         \
   }
 
 REAL(clock_gettime)
@@ -190,28 +191,39 @@ static void wake_waiting(const pthread_cond_t *condition, bool is_all) {
   give_lock();
 }
 
+/* What C11's functions answer, in the numbers of POSIX. In GNU's library both do the same with the same variables. */
+static int number_of_answer(int answer) {
+  switch (answer) {
+    case thrd_success: return 0;
+    case thrd_timedout: return ETIMEDOUT;
+    default: return EINVAL;
+  }
+}
+
 int pthread_cond_wait(pthread_cond_t *condition, pthread_mutex_t *mutex) {
-  int (*real)(pthread_cond_t *, pthread_mutex_t *);
+  any_function real = real_pthread_cond_wait();
   if (is_of_task()) return wait_outside(condition, mutex, INT64_MAX);
-  real = (int (*)(pthread_cond_t *, pthread_mutex_t *))real_pthread_cond_wait();
-  return real(condition, mutex);
+  if (!real) return number_of_answer(cnd_wait((cnd_t *)condition, (mtx_t *)mutex));
+  return ((int (*)(pthread_cond_t *, pthread_mutex_t *))real)(condition, mutex);
 }
 
 int pthread_cond_timedwait(pthread_cond_t *condition, pthread_mutex_t *mutex, const struct timespec *until) {
-  int (*real)(pthread_cond_t *, pthread_mutex_t *, const struct timespec *);
+  any_function real = real_pthread_cond_timedwait();
   if (is_of_task()) return wait_outside(condition, mutex, moment_of(until));
-  real = (int (*)(pthread_cond_t *, pthread_mutex_t *, const struct timespec *))real_pthread_cond_timedwait();
-  return real(condition, mutex, until);
+  if (!real) return number_of_answer(cnd_timedwait((cnd_t *)condition, (mtx_t *)mutex, until));
+  return ((int (*)(pthread_cond_t *, pthread_mutex_t *, const struct timespec *))real)(condition, mutex, until);
 }
 
 int pthread_cond_signal(pthread_cond_t *condition) {
+  any_function real = real_pthread_cond_signal();
   if (is_under_control()) wake_waiting(condition, false);
-  return ((int (*)(pthread_cond_t *))real_pthread_cond_signal())(condition);
+  return real ? ((int (*)(pthread_cond_t *))real)(condition) : number_of_answer(cnd_signal((cnd_t *)condition));
 }
 
 int pthread_cond_broadcast(pthread_cond_t *condition) {
+  any_function real = real_pthread_cond_broadcast();
   if (is_under_control()) wake_waiting(condition, true);
-  return ((int (*)(pthread_cond_t *))real_pthread_cond_broadcast())(condition);
+  return real ? ((int (*)(pthread_cond_t *))real)(condition) : number_of_answer(cnd_broadcast((cnd_t *)condition));
 }
 
 /* ---- What is beyond control ---- */

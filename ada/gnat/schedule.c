@@ -305,6 +305,7 @@ void ask_for_turn(task *me) {
 /* The main program has ended: what is left ends as it likes. */
 void end_schedule(void) {
   if (!is_controlled) return;
+  if (is_searched) note_finish();
   check_list_over();
   flush_choices();
   __atomic_store_n(&is_controlled, false, __ATOMIC_RELAXED);

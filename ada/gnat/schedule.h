@@ -59,6 +59,7 @@ uint32_t pick_by_search(uint32_t picks);
 void note_step(const candidates *those, unsigned chosen);
 void note_pick(uint32_t pick, uint32_t picks);
 void note_ready(const task *t);
+void note_finish(void);
 void end_outside(void);
 
 #endif

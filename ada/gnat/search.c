@@ -11,6 +11,7 @@
 #include <stdlib.h>
 #include <string.h>
 #include <sys/mman.h>
+#include <sys/prctl.h>
 #include <sys/wait.h>
 #include <time.h>
 #include <unistd.h>
@@ -140,8 +141,10 @@ static void take_processor(long number) {
   }
 }
 
+/* It ends with the search, if that is ended. */
 static void become_run(job *j) {
   this_run = j->run;
+  prctl(PR_SET_PDEATHSIG, SIGKILL);
   sigprocmask(SIG_SETMASK, &old_signals, NULL);
   take_processor(j - jobs);
   take_input();
@@ -167,6 +170,7 @@ static void clear_run(run *r) {
   r->marks = marks;
   r->names = names;
   r->end = BY_ITSELF;
+  r->is_finished = false;
   r->exception[0] = 0;
 }
 
@@ -232,12 +236,15 @@ static void take_end(const job *j, int status) {
   if (wished.ends && wished.plain) count_class(class_of(r));
 }
 
+static bool is_stuck_status(int status) { return WIFEXITED(status) && WEXITSTATUS(status) == STUCK_STATUS; }
+
 static void take_run(job *j, int status) {
   const run *r = j->run;
   trial t = j->trial;
   unsigned first = t.at ? depth_of(t) : 0;
   j->process = 0;
   last_depth = r->steps;
+  if (r->end == BY_ITSELF && !is_stuck_status(status) && !r->is_finished) end_by_step(j->run);
   if (r->end == STRAYED || !take_steps(r, t, path)) {
     found.strayed++;
     end_trial(t, t.at);

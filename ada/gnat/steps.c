@@ -62,6 +62,18 @@ static void note(uint16_t whose, uint16_t what) {
   s->marks++;
 }
 
+/* The latest step has ended the program, and so kept all others from theirs. */
+void end_by_step(run *r) {
+  step *s = r->steps ? &r->step[r->steps - 1] : NULL;
+  if (!s) return;
+  r->marks = s->first_mark + 1;
+  r->mark[s->first_mark].whose = EVERYBODY;
+  r->mark[s->first_mark].what = CHANGES;
+  s->marks = 1;
+}
+
+void note_finish(void) { this_run->is_finished = true; }
+
 static void note_name(uint16_t name) {
   if (this_run->names == MOST_NAMES) give_up();
   this_run->name[this_run->names++] = name;

@@ -61,6 +61,7 @@ typedef struct {
   mark sleeping[MOST_MARKS];
   /* What the run tells. */
   uint32_t end, steps, marks, names;
+  bool is_finished; /* whether the main program came to its end */
   uint64_t turns;
   step step[MOST_STEPS];
   mark mark[MOST_MARKS];
@@ -72,6 +73,7 @@ typedef struct {
 /* The run that this process is, or that it does the first steps of. */
 extern run *this_run;
 
+void end_by_step(run *r);
 bool depend(footprint one, footprint other);
 footprint footprint_of(const run *r, const step *s);
 

@@ -201,6 +201,7 @@ int write_verdict(const char *folder, bool is_any_left) {
   int status = write_first_line(to, is_left);
   write_rest(to, is_left);
   if (wished.ends) write_ends(to);
+  if (wished.ends && !wished.plain) fprintf(to, "cut off: %lu, since another order has what follows\n", found.asleep);
   if (class_count) fprintf(to, "classes: %zu\n", class_count);
   return fclose(to) ? FILE_STATUS : status;
 }
