@@ -1,2 +1,4 @@
 pub mod Endings
 pub mod Expectations
+pub mod Plays
+pub mod internal

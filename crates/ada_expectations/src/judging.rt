@@ -1,6 +1,9 @@
 //! Whether a play is as is expected.
-ghost use Rattle.std.specs.Prelude.{◌≡◌, IfOk};
+ghost use Rattle.std.specs.Prelude.{◌≡◌, ◌++◌, IfOk, OnOk, slice_get};
 ghost use Rattle.std.specs.List.{list_all, list_any};
+ghost use Rattle.ada_waiting.specs.Standstill.{verdict_of};
+ghost use Rattle.ada_expectations.specs.Plays.{IsPlayOf, refused_in};
+ghost use Rattle.ada_expectations.specs.internal.Refusals.{refused_line};
 ghost use Rattle.ada_expectations.specs.declared.expectation.Expectation.{Expectation as Comment};
 ghost use Rattle.ada_expectations.specs.Expectations as expectations;
 
@@ -10,7 +13,8 @@ use ada_explain::Scene;
 use ada_explain::standstill::{Standstill, write_standstill};
 use ada_replay::replaying::read_script;
 use ada_replay::{Account, Answer, RunFault, account_of};
-use ada_waiting::Verdict;
+use ada_script::Line;
+use ada_waiting::{Verdict, verdict_in};
 use std::alloc::{AllocError, Global};
 
 /// Why a play isn't as is expected.
@@ -77,8 +81,9 @@ impl RefusedLine {
 /// Plays a script, and judges the play by the comments of its text. A play that was to end, and of whose end no comment
 /// says anything, has to end with the main program terminated. An `Err` says that the text is no script, or `Memory`.
 pub fn judge<'a>(alloc: Global, text: &'a [u8], is_to_end: bool) -> Result<Judgement<'a>, RunFault>
-    ensures { IfOk result (λ judged. judged.is_met
+    ensures met { IfOk result (λ judged. judged.is_met
         ≡ expectations.is_as_expected judged.expected.items judged.end judged.refused.items) }
+    ensures play { IfOk result (λ judged. IsPlayOf text.now judged.end judged.refused.items) }
 {
     let script = read_script(alloc, text)?;
     let account = account_of(alloc, script)?;
@@ -94,11 +99,14 @@ fn judgement_of<'a>(
     account: &Account,
     is_to_end: bool,
 ) -> Result<Judgement<'a>, AllocError>
-    ensures { IfOk result (λ judged. judged.is_met
+    ensures met { IfOk result (λ judged. judged.is_met
         ≡ expectations.is_as_expected judged.expected.items judged.end judged.refused.items) }
+    ensures refused { IfOk result (λ judged. judged.refused.items
+        ≡ refused_in account.now.lines.items account.now.answers.items) }
+    ensures ends { IfOk result (λ judged. judged.end.verdict ≡ verdict_of account.now.kernel) }
 {
-    let end = write_standstill(&mut String::new(alloc), Scene::at_end(account))?;
-    let refused = refused_lines(alloc, account)?;
+    let end = end_of(alloc, account)?;
+    let refused = refused_lines(alloc, &account.lines, &account.answers)?;
     let Expectations { list, misread } = expectations_in(alloc, text)?;
     let mut failing = Vec::new(alloc);
     push_misread(&mut failing, &misread)?;
@@ -127,17 +135,49 @@ fn push_misread(failing: &mut Vec<Failing<'_>>, misread: &[u32]) -> Result<(), A
     Ok(())
 }
 
-fn refused_lines(alloc: Global, account: &Account) -> Result<Vec<RefusedLine>, AllocError> {
+// Puts a line to those that were refused, if it was.
+fn push_if_refused(
+    refused: &mut Vec<RefusedLine>,
+    line: u32,
+    answer: Option<Answer>,
+) -> Result<(), AllocError>
+    ensures { OnOk result (refused.new.items
+        ≡ refused.old.items ++ refused_line line answer) }
+{
+    if let Some(Answer::Refused(cause)) = answer {
+        refused.push(RefusedLine { line, cause })?;
+    }
+    Ok(())
+}
+
+fn answer_at(answers: &[Answer], place: usize) -> Option<Answer>
+    ensures { result ≡ slice_get answers.now place }
+{
+    answers.get(place).copied()
+}
+
+// The lines that were refused.
+fn refused_lines(
+    alloc: Global,
+    lines: &[Line],
+    answers: &[Answer],
+) -> Result<Vec<RefusedLine>, AllocError>
+    ensures { IfOk result (λ refused. refused.items ≡ refused_in lines.now answers.now) }
+{
     let mut refused = Vec::new(alloc);
-    for (line, answer) in account.lines.iter().zip(account.answers.iter()) {
-        if let Answer::Refused(cause) = answer {
-            refused.push(RefusedLine {
-                line: line.line,
-                cause: *cause,
-            })?;
-        }
+    for i in 0..lines.len() {
+        push_if_refused(&mut refused, lines[i].line, answer_at(answers, i))?;
     }
     Ok(refused)
+}
+
+// How a play ends.
+fn end_of(alloc: Global, account: &Account) -> Result<Standstill, AllocError>
+    ensures { IfOk result (λ end. end.verdict ≡ verdict_of account.now.kernel) }
+{
+    let verdict = verdict_in(&account.kernel);
+    let told = write_standstill(&mut String::new(alloc), Scene::at_end(account))?;
+    Ok(Standstill { verdict, ..told })
 }
 
 // Whether one of the refused lines is what is expected.
