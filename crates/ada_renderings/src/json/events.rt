@@ -34,7 +34,7 @@ pub fn write_events(alloc: Global, source: &[u8], account: &Account) -> Result<S
             }
         }
     }
-    write_ending(alloc, &mut writer.out, writer.scene)?;
+    writer.write_end()?;
     Ok(writer.out)
 }
 
@@ -60,6 +60,12 @@ impl Writer<'_> {
             end_object(&mut self.out)?;
         }
         Ok(())
+    }
+
+    // How the play ends.
+    fn write_end(&mut self) -> Result<(), AllocError> {
+        let scene = self.scene;
+        write_ending(self.alloc, &mut self.out, scene)
     }
 
     // What happened by the event at a position, after those before it.
