@@ -1,6 +1,6 @@
 //! What comments say, and what is found of plays that were worked out by hand.
 
-use crate::{Ending, Expectation, Expected, Failing, Form, Outcome, Suite, expectations_in, judge};
+use crate::{Ending, Expectation, Expected, Failing, expectations_in, judge};
 use ada_events::Refusal;
 use std::test::Fail;
 
@@ -96,36 +96,5 @@ fn judges_plays(rt: HostRuntime) -> Result<(), Fail> {
     assert_eq!(&rt; silent.as_slice(), [Failing::NothingExpected].as_slice());
     let unfinished = judge(rt.alloc(), SILENT, true)?.failing;
     assert_eq!(&rt; unfinished.as_slice(), [Failing::Unfinished].as_slice());
-    Ok(())
-}
-
-#[test]
-fn tells_of_a_script(rt: HostRuntime) -> Result<(), Fail> {
-    let judged = judge(rt.alloc(), OTHERWISE, false)?;
-    let mut suite = Suite::new(rt.alloc(), Form::Text);
-    let told = suite.add("a.tasks", Outcome::Played(&judged))?;
-    assert_eq!(&rt;
-        told.as_str(),
-        "a.tasks: line 1: expected 'stuck', and it ends 'waits until 5'; line 4: expected \
-         'refused 2 NotRunning', and it isn't; line 2 is refused, which isn't expected \
-         [NotInAccept]\n"
-    );
-    Ok(())
-}
-
-#[test]
-fn reports_in_xml(rt: HostRuntime) -> Result<(), Fail> {
-    let met = judge(rt.alloc(), REFUSED, false)?;
-    let mut suite = Suite::new(rt.alloc(), Form::Junit);
-    assert!(rt; suite.add("<a>", Outcome::Played(&met))?.is_empty());
-    assert!(rt; suite.add("b", Outcome::Unread)?.is_empty());
-    assert_eq!(&rt;
-        suite.end()?.as_str(),
-        "<?xml version=\"1.0\" encoding=\"UTF-8\"?>\n\
-         <testsuite name=\"adascope check\" tests=\"2\" failures=\"0\" errors=\"1\">\n  \
-         <testcase classname=\"adascope\" name=\"&lt;a&gt;\"/>\n  \
-         <testcase classname=\"adascope\" name=\"b\"><error message=\"cannot read the file\"/>\
-         </testcase>\n</testsuite>\n"
-    );
     Ok(())
 }

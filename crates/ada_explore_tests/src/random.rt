@@ -10,7 +10,7 @@ use std::test::Fail;
 
 /// So many scripts are tried by each test. One that has more schedules than these, with all that begin them, is left
 /// out.
-const SCRIPTS: u32 = 30;
+const SCRIPTS: u32 = 50;
 
 const MOST: u32 = 300;
 
@@ -81,7 +81,7 @@ fn finds(alloc: Global, script: &Script, ends: Ends) -> Result<bool, Halt> {
 
 // The first script of these of which the search finds something else, and no text if there is none.
 fn first_differing(alloc: Global, dice: &mut Dice) -> Result<String, Halt> {
-    let mut tried = 0;
+    let mut tried = 0u32;
     for _ in 0..u16::MAX {
         if tried == SCRIPTS {
             return Ok(String::new(alloc));
@@ -90,7 +90,7 @@ fn first_differing(alloc: Global, dice: &mut Dice) -> Result<String, Halt> {
         let script = read(alloc, text.as_bytes()).map_err(|_| Halt::Memory)?;
         match ends_of(alloc, &script, MOST) {
             Err(Halt::TooLong) => {}
-            Ok(ends) if finds(alloc, &script, ends)? => tried += 1,
+            Ok(ends) if finds(alloc, &script, ends)? => tried = tried.saturating_add(1),
             Ok(_) => return Ok(text),
             Err(halt) => return Err(halt),
         }
