@@ -19,9 +19,9 @@ pub enum Form {
 
 /// What was found of a script.
 #[derive(Clone, Copy)]
-pub enum Outcome<'a> {
+pub enum Outcome<'a, 't> {
     /// It was played.
-    Played(&'a Judgement<'a>),
+    Played(&'a Judgement<'t>),
     /// It is no script.
     NoScript(&'a RunFault),
     /// It can't be opened or read.
@@ -74,7 +74,7 @@ fn write_failing(
 }
 
 // Why a script isn't as is expected; no text if it is.
-fn reasons(alloc: Global, outcome: Outcome<'_>) -> Result<String, AllocError> {
+fn reasons(alloc: Global, outcome: Outcome<'_, '_>) -> Result<String, AllocError> {
     let mut text = String::new(alloc);
     match outcome {
         Outcome::Played(judgement) => {
@@ -129,7 +129,7 @@ fn object_of(
     alloc: Global,
     file: &str,
     reasons: &str,
-    outcome: Outcome<'_>,
+    outcome: Outcome<'_, '_>,
 ) -> Result<String, AllocError> {
     let object = match outcome {
         Outcome::Played(judgement) => {
@@ -166,7 +166,7 @@ impl Suite {
     }
 
     /// Adds a script, which is called so: what is to be printed of it by now.
-    pub fn add(&mut self, file: &str, outcome: Outcome<'_>) -> Result<String, AllocError> {
+    pub fn add(&mut self, file: &str, outcome: Outcome<'_, '_>) -> Result<String, AllocError> {
         let reasons = reasons(self.alloc, outcome)?;
         self.count(outcome, !reasons.is_empty());
         match self.form {
@@ -180,7 +180,7 @@ impl Suite {
         }
     }
 
-    fn count(&mut self, outcome: Outcome<'_>, fails: bool) {
+    fn count(&mut self, outcome: Outcome<'_, '_>, fails: bool) {
         self.tests = self.tests.saturating_add(1);
         let is_played = matches!(outcome, Outcome::Played(_));
         if fails && is_played {
@@ -194,7 +194,7 @@ impl Suite {
         &mut self,
         file: &str,
         reasons: &str,
-        outcome: Outcome<'_>,
+        outcome: Outcome<'_, '_>,
     ) -> Result<(), AllocError> {
         self.cases
             .push_str("  <testcase classname=\"adascope\" name=\"")?;

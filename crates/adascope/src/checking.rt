@@ -27,13 +27,16 @@ pub fn tell_checks<'a, R: Files + Input + Print + AllocGlobal>(
     let mut worst = Finding::Nothing;
     let mut unread = None;
     for file in &order.files {
-        match tell_check(rt, &mut suite, order, file).map_err(of_no_file)? {
-            Found::Finding(found) => worst = worse(worst, found),
-            Found::Unread(fault) if unread.is_none() => unread = Some((*file, fault)),
-            Found::Unread(_) => {}
+        match tell_check(rt, &mut suite, order, file) {
+            Ok(Found::Finding(found)) => worst = worse(worst, found),
+            Ok(Found::Unread(fault)) if unread.is_none() => unread = Some((*file, fault)),
+            Ok(Found::Unread(_)) => {}
+            Err(fault) => return Err(Failure { file: None, fault }),
         }
     }
-    tell_end(rt, &suite).map_err(of_no_file)?;
+    if let Err(fault) = tell_end(rt, &suite) {
+        return Err(Failure { file: None, fault });
+    }
     match unread {
         Some((file, fault)) => Err(Failure {
             file: Some(file),
@@ -41,10 +44,6 @@ pub fn tell_checks<'a, R: Files + Input + Print + AllocGlobal>(
         }),
         None => Ok(worst),
     }
-}
-
-fn of_no_file<'a>(fault: ScopeFault) -> Failure<'a> {
-    Failure { file: None, fault }
 }
 
 fn worse(worst: Finding, found: Finding) -> Finding {
@@ -114,7 +113,7 @@ fn tell<R: Print + AllocGlobal>(
     rt: &R,
     suite: &mut Suite,
     name: &str,
-    outcome: Outcome<'_>,
+    outcome: Outcome<'_, '_>,
 ) -> Result<(), ScopeFault> {
     let text = suite.add(name, outcome).map_err(|_| RunFault::Memory)?;
     write_text(rt, &text)

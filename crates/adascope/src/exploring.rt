@@ -42,7 +42,7 @@ pub fn tell_schedules<R: Files + Input + Print + Eprint + Clock + AllocGlobal>(
 // Writes a schedule as a script, and as a list of its choices, to the files that are named.
 fn write_schedule<R: Files + AllocGlobal>(
     rt: &R,
-    told: Told<'_>,
+    told: Told<'_, '_>,
     order: &Exploration<'_>,
     path: &[u16],
 ) -> Result<(), RunFault> {

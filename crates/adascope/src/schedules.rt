@@ -9,10 +9,10 @@ use std::alloc::{AllocError, Global};
 
 /// A script, with its text.
 #[derive(Clone, Copy)]
-pub struct Told<'a> {
+pub struct Told<'a, 't> {
     pub alloc: Global,
     pub script: &'a Script,
-    pub source: &'a Source<'a>,
+    pub source: &'a Source<'t>,
 }
 
 // Of a schedule that was found only want of memory comes.
@@ -58,7 +58,7 @@ pub fn schedule_in(found: &Explored) -> Option<&[u16]> {
     }
 }
 
-impl<'a> Told<'a> {
+impl<'t> Told<'_, 't> {
     /// What was found.
     pub fn report(&self, found: &Explored) -> Result<String, RunFault> {
         let mut text = String::new(self.alloc);
@@ -171,7 +171,7 @@ impl<'a> Told<'a> {
     }
 
     // Whose line it is: the name before its colon, or `tick`.
-    fn speaker(&self, place: u16) -> &'a str {
+    fn speaker(&self, place: u16) -> &'t str {
         match self.source.line(self.number(place)).split_once(':') {
             Some((name, _)) => name.trim(),
             None => "tick",
