@@ -14,9 +14,20 @@ use std::marker::Model;
 /// How many rows the forced steps have.
 const ROWS: usize = 11;
 
+// A copy of the sets, in memory of `alloc`.
+fn copy_of(alloc: Global, sets: &[Numbers]) -> Result<Vec<Numbers>, AllocError>
+    ensures { IfOk result (λ copy. copy.items ≡ sets.now) }
+{
+    let mut copy = Vec::with_capacity(alloc, sets.len())?;
+    for set in sets {
+        copy.push(set.copy(alloc)?)?;
+    }
+    Ok(copy)
+}
+
 /// What is to be looked at, in the rows of the forced steps: numbers below `MOST_KEYS`, of which the least of the
-/// first row that has one comes first. All calls but `new` take no memory, and look at a few words; a row gets its
-/// words as they are reached. Contracts see it as the list of its rows, each as the words of its bits.
+/// first row that has one comes first. All calls but `new` and `copy` take no memory, and look at a few words; a row
+/// gets its words as they are reached. Contracts see it as the list of its rows, each as the words of its bits.
 #[derive(Drop)]
 pub struct Agenda {
     rows: Vec<Numbers>,
@@ -48,6 +59,17 @@ impl Agenda {
         Ok(Agenda {
             rows: sets,
             filled: [0],
+        })
+    }
+
+    /// A copy of the rows, in memory of `alloc`.
+    pub fn copy(&self, alloc: Global) -> Result<Self, AllocError>
+        ensures { IfOk result (λ copy. copy ≡ self.now) }
+    {
+        let rows = copy_of(alloc, &self.rows)?;
+        Ok(Agenda {
+            rows,
+            filled: self.filled,
         })
     }
 

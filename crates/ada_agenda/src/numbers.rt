@@ -77,6 +77,19 @@ impl Numbers {
         })
     }
 
+    /// A copy of the set, in memory of `alloc`.
+    pub fn copy(&self, alloc: Global) -> Result<Self, AllocError>
+        ensures { IfOk result (λ copy. copy ≡ self.now) }
+    {
+        let mut low = Vec::with_capacity(alloc, WORDS)?;
+        low.extend_from_slice(&self.low)?;
+        Ok(Numbers {
+            low,
+            mid: self.mid,
+            top: self.top,
+        })
+    }
+
     /// Puts a number in, which may be there already.
     pub fn insert(&mut self, number: usize)
         requires { number < MOST_KEYS }

@@ -146,12 +146,15 @@ fn cover_step(
     script: &Script,
     states: &mut States,
     path: &[u16],
+    standing: &Standing,
     place: u16,
 ) -> Result<bool, Halt>
+    requires { Comes (scripts.scripted script.now) (reverse path.now)
+        (scripts.at standing.now.kernel standing.now.left.items standing.now.names) }
     ensures { IfOk result (λ covered. covered ≡ true → AreKept states.old states.new
         × LeadsOnAfter script.now states.new path.now place) }
 {
-    let mut said = follow(alloc, script, path)?;
+    let mut said = standing.copy(alloc)?;
     said.say(script.lines(), place)?;
     let schedule = Schedule::longer(alloc, path, place)?;
     cover(alloc, script, states, &said, schedule)
@@ -166,6 +169,8 @@ fn cover_choice(
     standing: &Standing,
     place: u16,
 ) -> Result<bool, Halt>
+    requires { Comes (scripts.scripted script.now) (reverse path.now)
+        (scripts.at standing.now.kernel standing.now.left.items standing.now.names) }
     ensures { IfOk result (λ covered. covered ≡ true → AreKept states.old states.new
         × (scripts.may_come script.now standing.now.kernel
         (scripts.rest standing.now.left.items standing.now.names) place ≡ true
@@ -174,7 +179,7 @@ fn cover_choice(
     if !standing.may_come(script.lines(), place) {
         return Ok(true);
     }
-    cover_step(alloc, script, states, path, place)
+    cover_step(alloc, script, states, path, standing, place)
 }
 
 // Whether each line that may come in a standing leads to what is covered, after a schedule.
@@ -185,6 +190,8 @@ fn cover_choices(
     path: &[u16],
     standing: &Standing,
 ) -> Result<bool, Halt>
+    requires { Comes (scripts.scripted script.now) (reverse path.now)
+        (scripts.at standing.now.kernel standing.now.left.items standing.now.names) }
     ensures { IfOk result (λ covered. covered ≡ true
         → AreCovered script.now states.old states.new path.now
         (scripts.at standing.now.kernel standing.now.left.items standing.now.names)

@@ -11,11 +11,17 @@ use ada_script::{Line, Script};
 use ada_waiting::next_due;
 use indexmap::IndexSet;
 use std::alloc::Global;
+use std::collections::VecDeque;
 
-/// So many bytes a state takes beside its key, and a step from one to another, about.
+/// Of so many states that are still to be gone on from it is kept where they come to.
+const MOST_WAITING: usize = 256;
+
+/// So many bytes a state takes beside its key, a step from one to another, and where a state comes to, about.
 const STATE: u64 = 128;
 
 const LEAD: u64 = 12;
+
+const STANDING: u64 = 150_000;
 
 /// How a search ended.
 #[derive(Clone, Copy, Debug, PartialEq, Eq)]
@@ -52,6 +58,9 @@ pub(crate) struct Search {
     keys: IndexSet<Vec<u8>>,
     /// So many bytes these have.
     bytes: u64,
+    /// Of the first states that are still to be gone on from, where they come to. The paths of the others are played
+    /// again.
+    waiting: VecDeque<Waiting>,
     /// The first stuck state.
     pub(crate) first: Option<u32>,
     /// How many states are stuck.
@@ -90,6 +99,13 @@ struct Deadend {
     left: Vec<u16>,
 }
 
+/// A state that is still to be gone on from, with where it comes to.
+#[derive(Drop)]
+struct Waiting {
+    state: u32,
+    standing: Standing,
+}
+
 impl Search {
     /// Searches all schedules of a script. So many states are gone on from, at most.
     pub(crate) fn of<W: Watch>(
@@ -103,6 +119,7 @@ impl Search {
             steps: Vec::new(alloc),
             keys: IndexSet::new(alloc),
             bytes: 0,
+            waiting: VecDeque::new(alloc),
             first: None,
             stuck: 0,
             short: 0,
@@ -136,17 +153,22 @@ impl Search {
             from: 0,
             place: u16::MAX,
         };
-        self.meet(script.lines(), &standing, step)?;
+        self.meet(script.lines(), standing, step)?;
         Ok(())
     }
 
     fn progress(&self, done: u32) -> Progress {
         let leads = (self.leads.len() as u64).saturating_mul(LEAD);
         let states = u64::from(self.states()).saturating_mul(STATE);
+        let waiting = (self.waiting.len() as u64).saturating_mul(STANDING);
         Progress {
             done,
             met: self.states(),
-            bytes: self.bytes.saturating_add(states).saturating_add(leads),
+            bytes: self
+                .bytes
+                .saturating_add(states)
+                .saturating_add(leads)
+                .saturating_add(waiting),
         }
     }
 
@@ -173,28 +195,45 @@ impl Search {
         Ok(path)
     }
 
-    // Takes each step from a state. The first one is taken where the choices were looked at.
+    // Where a state comes to: that is kept, or its path is played again.
+    fn standing(&mut self, script: &Script, state: u32, path: &[u16]) -> Result<Standing, Halt> {
+        match self.waiting.front() {
+            Some(first) if first.state == state => {}
+            _ => return play(self.alloc, script, path),
+        }
+        match self.waiting.pop_front() {
+            Some(first) => Ok(first.standing),
+            None => play(self.alloc, script, path),
+        }
+    }
+
+    // Takes each step from a state, on a copy of where it comes to, but for the last one.
     fn go_on(&mut self, script: &Script, state: u32) -> Result<(), Halt> {
         let path = self.path(state)?;
-        let standing = play(self.alloc, script, &path)?;
+        let standing = self.standing(script, state, &path)?;
         let choices = choices(self.alloc, script.lines(), &standing)?;
         if choices.is_empty() {
             self.end_at(script.lines(), state, &standing)?;
         }
-        let after = u32::try_from(path.len()).unwrap_or(u32::MAX);
-        let mut here = Some(standing);
-        for place in &choices {
-            let from = match here.take() {
-                Some(standing) => standing,
-                None => play(self.alloc, script, &path)?,
-            };
+        let after = u32::try_from(path.len())
+            .unwrap_or(u32::MAX)
+            .saturating_add(1);
+        let Some((last, others)) = choices.split_last() else {
+            return Ok(());
+        };
+        for place in others {
+            let from = standing.copy(self.alloc)?;
             let step = Step {
                 from: state,
                 place: *place,
             };
-            self.step(script, from, step, after.saturating_add(1))?;
+            self.step(script, from, step, after)?;
         }
-        Ok(())
+        let step = Step {
+            from: state,
+            place: *last,
+        };
+        self.step(script, standing, step, after)
     }
 
     // Notes a state in which no line may come.
@@ -219,10 +258,10 @@ impl Search {
         self.taken = self.taken.saturating_add(1);
         let mut standing = from;
         match standing.perform(script.lines(), step.place) {
-            Ok(None) => self.lead(script.lines(), &standing, step),
+            Ok(None) => self.lead(script.lines(), standing, step),
             Ok(Some(cause)) => {
                 self.note_refused(step.place, cause, after)?;
-                self.lead(script.lines(), &standing, step)
+                self.lead(script.lines(), standing, step)
             }
             Err(Halt::Limit(cause)) => {
                 self.end = End::Limit(cause);
@@ -249,7 +288,7 @@ impl Search {
     }
 
     // Notes where a step leads.
-    fn lead(&mut self, script: &[Line], standing: &Standing, step: Step) -> Result<(), Halt> {
+    fn lead(&mut self, script: &[Line], standing: Standing, step: Step) -> Result<(), Halt> {
         let to = self.meet(script, standing, step)?;
         let lead = Lead {
             from: step.from,
@@ -259,17 +298,27 @@ impl Search {
     }
 
     // The number of a state, which is noted if it is new.
-    fn meet(&mut self, script: &[Line], standing: &Standing, step: Step) -> Result<u32, Halt> {
-        let key = key_of(self.alloc, script, standing).map_err(|_| Halt::Memory)?;
+    fn meet(&mut self, script: &[Line], standing: Standing, step: Step) -> Result<u32, Halt> {
+        let key = key_of(self.alloc, script, &standing).map_err(|_| Halt::Memory)?;
         let bytes = key.len() as u64;
         let (state, is_new) = self.keys.insert_full(key).map_err(|_| Halt::Memory)?;
         let state = u32::try_from(state).map_err(|_| Halt::Memory)?;
         if is_new {
             self.bytes = self.bytes.saturating_add(bytes);
             self.steps.push(step).map_err(|_| Halt::Memory)?;
-            self.note_stuck(standing, state);
+            self.note_stuck(&standing, state);
+            self.keep(state, standing)?;
         }
         Ok(state)
+    }
+
+    // Keeps where a new state comes to, if there is room.
+    fn keep(&mut self, state: u32, standing: Standing) -> Result<(), Halt> {
+        if self.waiting.len() < MOST_WAITING {
+            let waiting = Waiting { state, standing };
+            self.waiting.push_back(waiting).map_err(|_| Halt::Memory)?;
+        }
+        Ok(())
     }
 
     fn note_stuck(&mut self, standing: &Standing, state: u32) {

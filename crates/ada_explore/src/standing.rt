@@ -141,6 +141,21 @@ impl Standing {
         })
     }
 
+    /// A copy, in memory of `alloc`, which goes on by itself.
+    pub(crate) fn copy(&self, alloc: Global) -> Result<Self, Halt>
+        ensures { IfOk result (λ copy. scripts.at copy.kernel copy.left.items copy.names
+            ≡ scripts.at self.now.kernel self.now.left.items self.now.names) }
+    {
+        let kernel = self.kernel.copy(alloc).map_err(|_| Halt::Memory)?;
+        let left = Vec::from_slice(alloc, &self.left).map_err(|_| Halt::Memory)?;
+        let names = self.names.copy().map_err(|_| Halt::Memory)?;
+        Ok(Standing {
+            kernel,
+            left,
+            names,
+        })
+    }
+
     // The first of the lines that are left at which this task asks; without a task the first tick.
     fn next_of(&self, script: &[Line], by: Option<TaskNo>) -> Option<u16>
         ensures { result ≡ scripts.next_of script.now

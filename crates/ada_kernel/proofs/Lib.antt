@@ -1,4 +1,5 @@
 pub mod Empty
+pub mod Copied
 pub mod Creations
 pub mod Keys
 pub mod Quiet

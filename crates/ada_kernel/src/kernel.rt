@@ -12,6 +12,7 @@ ghost use Rattle.ada_events.specs.Boards.{board_of};
 ghost use Rattle.ada_laws.specs.Laws.{KeepsTheLaws};
 ghost use Rattle.ada_view.specs.Views.{IsRecordIfAny};
 
+use crate::copying::copy_journal;
 use crate::index::Index;
 use ada_events::{Board, Entry, Journal, Outcome, Refusal, Request, TaskNo};
 use ada_records::Record;
@@ -53,6 +54,17 @@ impl Kernel {
     {
         let index = Index::new(alloc)?;
         let journal = Journal::new(alloc);
+        Ok(Kernel { journal, index })
+    }
+
+    /// A copy of the kernel, in memory of `alloc`: what is asked of the one changes nothing in the other. Fails with
+    /// `OutOfMemory` alone.
+    pub fn copy(&self, alloc: Global) -> Result<Self, Refusal>
+        ensures ok { IfOk result (λ copy. copy ≡ self.now) }
+        ensures err { IfErr result (λ cause. cause ≡ Refusal.OutOfMemory) }
+    {
+        let index = self.index.copy(alloc)?;
+        let journal = copy_journal(alloc, &self.journal)?;
         Ok(Kernel { journal, index })
     }
 

@@ -8,6 +8,7 @@
 mod aborts;
 mod activation;
 mod answering;
+mod copying;
 mod delays;
 mod index;
 pub mod kernel;

@@ -1,6 +1,7 @@
 pub mod Adding
 pub mod Alongs
 pub mod Bounds
+pub mod Copying
 pub mod Counting
 pub mod Cutting
 pub mod Ending

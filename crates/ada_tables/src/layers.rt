@@ -215,6 +215,17 @@ impl Layers {
         }
     }
 
+    /// A copy of the nest.
+    pub(crate) fn copy(&self) -> Self
+        ensures { result ≡ self.now }
+    {
+        let mut layers = ArrayVec::new();
+        let Ok(()) = layers.try_extend_from_slice(self.layers.as_slice()) else {
+            unreachable!()
+        };
+        Layers { layers }
+    }
+
     /// How many members there are, at most 32.
     pub fn len(&self) -> usize
         ensures value { result ≡ length self.now }

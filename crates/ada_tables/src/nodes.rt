@@ -1,5 +1,5 @@
 //! The nodes of queued calls, in a slab.
-ghost use Rattle.std.specs.Prelude.{◌≡◌, ◌+◌, ◌<◌, ◌≤◌, ◌==◌, [], ◌∷◌, ◌++◌, Some, None, IsSome, OnOk, OnErr, is_some, option_map, length, slice_set};
+ghost use Rattle.std.specs.Prelude.{◌≡◌, ◌+◌, ◌<◌, ◌≤◌, ◌==◌, [], ◌∷◌, ◌++◌, Some, None, IsSome, IfOk, OnOk, OnErr, is_some, option_map, length, slice_set};
 ghost use Rattle.std.specs.Option.{option_and_then, ForSome};
 ghost use Rattle.slab.specs.Slab.{get, slab_len, HasRoomFor, Updates};
 ghost use Rattle.ada_tables.specs.internal.Nodes.{key_of};
@@ -54,6 +54,18 @@ impl Nodes {
             slab: Slab::new(alloc),
             keys: Vec::new(alloc),
         }
+    }
+
+    /// A copy of the nodes, under the same keys, in memory of `alloc`.
+    #[tactic(auto, using(crate::proofs::Copying::same_slab))]
+    pub(crate) fn copy(&self, alloc: Global) -> Result<Self, AllocError>
+        ensures { IfOk result (λ copy. copy ≡ record self.now {
+          slab = record self.now.slab { capacity = copy.slab.capacity };
+        }) }
+    {
+        let slab = self.slab.clone()?;
+        let keys = Vec::from_slice(alloc, &self.keys)?;
+        Ok(Nodes { slab, keys })
     }
 
     /// Adds a caller without a node. A failure changes nothing.

@@ -1,5 +1,6 @@
 //! The queues of calls, one for each entry, linked through their nodes.
-ghost use Rattle.std.specs.Prelude.{◌≡◌, ◌+◌, ◌-◌, ◌<◌, ◌≤◌, true, false, [], ◌++◌, Some, None, OnOk, OnErr, is_none, if◌then◌else◌, ◌==◌, length, replicate};
+ghost use Rattle.std.specs.Prelude.{◌≡◌, ◌+◌, ◌-◌, ◌<◌, ◌≤◌, true, false, [], ◌++◌, Some, None, IfOk, OnOk, OnErr, is_none, if◌then◌else◌};
+ghost use Rattle.std.specs.Prelude.{◌==◌, length, replicate};
 ghost use Rattle.std.specs.Option.{option_or};
 ghost use Rattle.ada_events.specs.Search.{all_below};
 ghost use Rattle.ada_tables.specs.Queues.{queue_at, waits, with_last, without, front_call};
@@ -106,6 +107,15 @@ impl Queues {
             nodes: Nodes::new(alloc),
             queues: Vec::new(alloc),
         }
+    }
+
+    /// A copy of the queues, in memory of `alloc`. For how many more calls there is room may differ.
+    pub fn copy(&self, alloc: Global) -> Result<Self, AllocError>
+        ensures { IfOk result (λ copy. copy ≡ record self.now { spare = copy.spare }) }
+    {
+        let nodes = self.nodes.copy(alloc)?;
+        let queues = Vec::from_slice(alloc, &self.queues)?;
+        Ok(Queues { nodes, queues })
     }
 
     /// Adds a task that may call, with so many slots, whose queues are empty. There are at most 256 tasks and

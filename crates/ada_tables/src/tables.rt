@@ -63,6 +63,17 @@ impl Tables {
         Ok(Tables { tasks, queues })
     }
 
+    /// A copy of the tables, in memory of `alloc`. For how many more calls there is room may differ. Fails with
+    /// `OutOfMemory` alone.
+    pub fn copy(&self, alloc: Global) -> Result<Self, Refusal>
+        ensures ok { IfOk result (λ copy. copy ≡ record self.now { spare = copy.spare }) }
+        ensures err { IfErr result (λ cause. cause ≡ Refusal.OutOfMemory) }
+    {
+        let tasks = self.tasks.copy(alloc)?;
+        let queues = self.queues.copy(alloc)?;
+        Ok(Tables { tasks, queues })
+    }
+
     /// Adds a task that was made under a master (9.4), the body or an open block of a task that isn't
     /// terminated, and gives its number. There are at most 256 tasks and 1,024 entries. Fails with
     /// `OutOfMemory` alone, and then changes nothing.

@@ -49,6 +49,21 @@ impl Task {
             families,
         }
     }
+
+    // A copy of the record.
+    pub(crate) fn copy(&self) -> Task
+        ensures { result ≡ self.now }
+    {
+        Task {
+            master: self.master,
+            live: self.live,
+            holder: self.holder,
+            first_slot: self.first_slot,
+            phase: self.phase,
+            nest: self.nest.copy(),
+            families: Families::from_slice(self.families.as_slice()),
+        }
+    }
 }
 
 // Of two masters that the task of that number holds, whether the second is the first or stands outside it.

@@ -1,5 +1,5 @@
 //! The records of all tasks, and the counts of their masters.
-ghost use Rattle.std.specs.Prelude.{◌≡◌, ◌-◌, ◌<◌, ◌≤◌, Some, None, true, false, [], ◌∷◌, ◌++◌, OnOk, length, slice_index, take};
+ghost use Rattle.std.specs.Prelude.{◌≡◌, ◌-◌, ◌<◌, ◌≤◌, Some, None, true, false, [], ◌∷◌, ◌++◌, OnOk, IfOk, length, slice_index, take};
 ghost use Rattle.std.specs.Option.{ForSome};
 ghost use Rattle.ada_events.specs.Nests.{innermost};
 ghost use Rattle.ada_tables.specs.Layers.{members};
@@ -17,6 +17,17 @@ use crate::{Layers, Phase};
 use ada_events::{Families, Master, Member, TaskNo};
 use std::alloc::{AllocError, Global};
 use std::marker::Model;
+
+// A copy of the records, in memory of `alloc`.
+fn copy_of(alloc: Global, tasks: &[Task]) -> Result<Vec<Task>, AllocError>
+    ensures { IfOk result (λ copy. copy.items ≡ tasks.now) }
+{
+    let mut copy = Vec::with_capacity(alloc, tasks.len())?;
+    for task in tasks {
+        copy.push(task.copy())?;
+    }
+    Ok(copy)
+}
 
 // Changes the counts of the masters that a task depends on: those of the holder of the master that it was
 // made under, then those of the holder of that task's master, and so on. A holder was made before the tasks
@@ -126,6 +137,14 @@ impl Tasks {
         Tasks {
             tasks: Vec::new(alloc),
         }
+    }
+
+    /// A copy of the tasks, in memory of `alloc`.
+    pub(crate) fn copy(&self, alloc: Global) -> Result<Self, AllocError>
+        ensures { IfOk result (λ copy. copy ≡ record self.now { room = copy.room }) }
+    {
+        let tasks = copy_of(alloc, &self.tasks)?;
+        Ok(Tasks { tasks })
     }
 
     /// Makes room for one more task.
