@@ -116,6 +116,27 @@ fn what_was_in_vain_is_tried_again_at_twice_the_length(rt: HostRuntime) -> Resul
     Ok(())
 }
 
+// With a threshold of 64 the journal is made shorter at 64 events each time, also after a release.
+#[test]
+fn a_release_changes_no_threshold(rt: HostRuntime) -> Result<(), Fail> {
+    let mut kernel = LongKernel::new(rt.alloc(), 64)?;
+    live_and_end(&rt, &mut kernel, MAIN, MAIN_BODY, 1);
+    let mut times = 0u32;
+    for now in 0..200u32 {
+        if now == 30 {
+            assert_release(&rt, &mut kernel, 1, Ok(()));
+        }
+        let before = length(&kernel);
+        tick(&rt, &mut kernel, now);
+        if length(&kernel) <= before {
+            assert_eq!(&rt; before, 64);
+            times = times.wrapping_add(1);
+        }
+    }
+    assert!(&rt; times >= 2, "{times}");
+    Ok(())
+}
+
 // A block of the main program in which two tasks meet, which is left when both are terminated.
 fn meet_in_a_block<R: Abort>(rt: &R, kernel: &mut LongKernel) {
     let block = next(kernel);
