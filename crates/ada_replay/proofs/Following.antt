@@ -11,7 +11,7 @@ use Rattle.ada_replay.specs.declared.judgement.Judgement.{Judgement}
 use Rattle.ada_replay.specs.declared.judgement.Stop.{Stop}
 use Rattle.ada_replay.specs.declared.judgement.Stop.TheVariants as stops
 use Rattle.ada_replay.specs.Lines.{Says, Passes, declared}
-use Rattle.ada_replay.specs.Courses.{IsCourse}
+use Rattle.ada_replay.specs.Courses.{IsCourse, ManyConform}
 use Rattle.ada_replay.specs.internal.Stopping.{IsStop, IsTurnedDown, judged}
 
 -- what was read is what a line says
@@ -40,6 +40,11 @@ stops_here number line lines behind old new (stops.Faulty cause) first found (in
     absurd (found (subst (λ c. stops.Faulty c ≡ stops.Faulty causes.OutOfMemory) (sym memory) refl))
 stops_here number line lines behind old new (stops.Faulty cause) first found (inr (faulty, same)) =
     subst (λ (ls : List (List ℕ)). IsCourse number ls old (judged number (stops.Faulty cause)) new) (sym first) (inl (refl, faulty, same))
+
+-- so many lines come before the next one, if that stops a log
+pub stops_after : (number all : ℕ) (stop : Stop) → ManyConform (judged (number + 1) stop) all number
+stops_after number all (stops.Refused statement cause) = refl
+stops_after number all (stops.Faulty cause) = refl
 
 -- the first of the lines passes, and the others lead on
 pub leads_on : (number : ℕ) (line : List ℕ) (lines behind : List (List ℕ)) (old between : PlayState) → lines ≡ line ∷ behind

@@ -22,3 +22,9 @@ abbrev pub IsCourse : ℕ → List (List ℕ) → PlayState → Judgement → Pl
 IsCourse number [] old judgement new = (judgement ≡ Conforms) × (new ≡ old)
 IsCourse number (line ∷ lines) old judgement new = Stops number line old judgement new
     ⊎ ((between : PlayState) × Passes line old between × IsCourse (number + 1) lines between judgement new)
+
+-- so many of all lines conform: those before the one that stops the log, or all
+abbrev pub ManyConform : Judgement → (all many : ℕ) → Type 0
+ManyConform Conforms all many = many ≡ all
+ManyConform (Refused at statement cause) all many = at ≡ many + 1
+ManyConform (Faulty fault) all many = fault.line ≡ many + 1

@@ -2,7 +2,7 @@
 ghost use Rattle.std.specs.Prelude.{◌≡◌, ◌<◌, ◌^◌, length, IfOk, IfErr, OnOk};
 ghost use Rattle.ada_statements.specs.Text.{lines_of};
 ghost use Rattle.ada_replay.specs.Ends.{state};
-ghost use Rattle.ada_replay.specs.Courses.{beginning, IsCourse};
+ghost use Rattle.ada_replay.specs.Courses.{beginning, IsCourse, ManyConform};
 ghost use Rattle.ada_replay.specs.internal.Stopping.{judged as judged_so};
 ghost use Rattle.ada_replay.specs.declared.judgement.Stop.TheVariants as stops;
 
@@ -47,7 +47,7 @@ fn judged(number: u32, stop: Stop) -> Result<Judgement, RunFault>
 }
 
 // Takes the lines of a log up to the first that stops it: how it is judged, and how many lines came before that one.
-#[tactic(auto, using(crate::proofs::Following::lines_few, crate::proofs::Following::stops_here, crate::proofs::Following::leads_on))]
+#[tactic(auto, using(crate::proofs::Following::lines_few, crate::proofs::Following::stops_here, crate::proofs::Following::stops_after, crate::proofs::Following::leads_on))]
 fn take_lines(
     alloc: Global,
     kernel: &mut Kernel,
@@ -57,6 +57,8 @@ fn take_lines(
     requires { length log.now < 2 ^ 32 }
     ensures ok { IfOk result (λ taken. IsCourse 1 (lines_of log.now)
         (state kernel.old names.old) taken.0 (state kernel.new names.new)) }
+    ensures lines { IfOk result (λ taken.
+        ManyConform taken.0 (length (lines_of log.now)) taken.1) }
     ensures err { IfErr result (λ fault. fault ≡ RunFault.Memory) }
 {
     let mut number = 0u32;
@@ -77,6 +79,8 @@ pub fn follow(alloc: Global, log: &[u8]) -> Result<Course, RunFault>
     requires { length log.now < 2 ^ 32 }
     ensures ok { IfOk result (λ course. IsCourse 1 (lines_of log.now) beginning course.judgement
         (state course.kernel course.names)) }
+    ensures lines { IfOk result (λ course.
+        ManyConform course.judgement (length (lines_of log.now)) course.lines) }
     ensures err { IfErr result (λ fault. fault ≡ RunFault.Memory) }
 {
     let mut names = Names::new(alloc).map_err(|_| RunFault::Memory)?;

@@ -1,5 +1,5 @@
 //! Writing an output whole.
-ghost use Rattle.std.specs.Prelude.{◌≡◌, ℕ, ◌++◌, List, IfErr, OnOk, take};
+ghost use Rattle.std.specs.Prelude.{◌≡◌, ◌<◌, ℕ, ◌++◌, List, IfErr, OnOk, length, take};
 ghost use Rattle.std.specs.Io.KnownBytes.{Appends};
 
 use crate::RunFault;
@@ -32,6 +32,7 @@ pub fn write_piece<W: Write>(writer: &mut W, text: &mut Vec<u8>) -> Result<(), R
     ensures ok { OnOk result ((written : List ℕ)
         × Appends (W.contents writer.old) (W.contents writer.new) written
         × (text.old.items ≡ written ++ text.new.items)) }
+    ensures short { OnOk result (length text.new.items < 65536) }
     ensures err { IfErr result (λ fault. (fault ≡ RunFault.Write) × (n : ℕ)
         × Appends (W.contents writer.old) (W.contents writer.new) (take n text.old.items)) }
 {
