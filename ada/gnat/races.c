@@ -166,20 +166,31 @@ static unsigned next_in_order(const run *r, const uint64_t *taken) {
   return best;
 }
 
-/* A number that runs have in common whose orders are of one class: that of the least order in it. */
-uint64_t class_of(const run *r) {
-  uint64_t number = UINT64_C(14695981039346656037), *taken;
+/* The steps of a run in the least order of their class. */
+void put_in_order(const run *r, choice *to) {
+  uint64_t *taken;
   unsigned i;
   make_clocks(r);
   find_order(r);
   taken = calloc(words, sizeof *taken);
-  for (i = 0; taken && i < r->steps; i++) {
-    unsigned at = next_in_order(r, taken);
-    number = (number ^ who_at(r, at)) * UINT64_C(1099511628211);
-    number = (number ^ r->step[at].taken.pick) * UINT64_C(1099511628211);
-    add(taken, at);
+  for (i = 0; i < r->steps; i++) {
+    unsigned at = taken ? next_in_order(r, taken) : i;
+    to[i] = r->step[at].taken;
+    if (taken) add(taken, at);
   }
   free(taken);
   free(clocks);
+}
+
+/* A number that runs have in common whose orders are of one class: that of the least order in it. */
+uint64_t class_of(const run *r) {
+  static choice order[MOST_STEPS];
+  uint64_t number = UINT64_C(14695981039346656037);
+  unsigned i;
+  put_in_order(r, order);
+  for (i = 0; i < r->steps; i++) {
+    number = (number ^ order[i].who) * UINT64_C(1099511628211);
+    number = (number ^ order[i].pick) * UINT64_C(1099511628211);
+  }
   return number;
 }

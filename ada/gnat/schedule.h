@@ -61,5 +61,6 @@ void note_pick(uint32_t pick, uint32_t picks);
 void note_ready(const task *t);
 void note_finish(void);
 void end_outside(void);
+void add_use(uint16_t object);
 
 #endif

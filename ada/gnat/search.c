@@ -16,7 +16,8 @@
 #include <time.h>
 #include <unistd.h>
 
-enum { MOST_JOBS = 256, PARTS = 10 };
+/* BEGINNINGS: a search is divided into so many for each shard, if there are as many. */
+enum { MOST_JOBS = 256, PARTS = 10, BEGINNINGS = 16 };
 
 /* What is asked for; 0 is no limit. */
 wishes wished = {.runs = 10000, .preemptions = -1, .jobs = 1, .steps = 2000, .patience = 10};
@@ -38,9 +39,8 @@ static off_t input_at;
 static cpu_set_t processors;
 static sigset_t child_signal, old_signals;
 static struct timespec begun, shown;
-static bool is_cut_short;
+static bool is_cut_short, is_dividing;
 static unsigned last_depth;
-findings found;
 
 /* ---- What is asked for ---- */
 
@@ -61,7 +61,8 @@ static long *wish_named(const char *name) {
     long *value;
   } all[] = {{"runs", &wished.runs},   {"seconds", &wished.seconds},   {"preemptions", &wished.preemptions},
              {"plain", &wished.plain}, {"jobs", &wished.jobs},         {"steps", &wished.steps},
-             {"ends", &wished.ends},   {"patience", &wished.patience}, {"line", &wished.line}};
+             {"ends", &wished.ends},   {"patience", &wished.patience}, {"line", &wished.line},
+             {"shard", &wished.shard}, {"shards", &wished.shards},     {"merge", &wished.merge}};
   size_t i;
   for (i = 0; i < sizeof all / sizeof *all; i++) {
     if (!strcmp(all[i].name, name)) return all[i].value;
@@ -92,6 +93,7 @@ void begin_search(void) {
   const char *text = getenv("ADATASK_SEARCH");
   if (!text || !*text) return;
   read_wishes(text);
+  if (wished.merge) is_cut_short = merge_findings(folder);
   is_searched = true;
   jobs[0].run = this_run = shared(sizeof *this_run);
   this_run->most_steps = (uint32_t)wished.steps;
@@ -128,8 +130,10 @@ static void take_input(void) {
   close(file);
 }
 
-/* The processor of a job: each has one, on which its threads wake each other sooner. */
-static void take_processor(long number) {
+/* The processor of a job: each has one, on which its threads wake each other sooner. Shards that run beside each other
+   begin with different ones. */
+static void take_processor(long job) {
+  long number = wished.shard ? (wished.shard - 1) * wished.jobs + job : job;
   int count = CPU_COUNT(&processors), wanted = count ? (int)(number % count) : 0, at;
   cpu_set_t one;
   for (at = 0; at < CPU_SETSIZE; at++) {
@@ -155,20 +159,24 @@ static void empty(int file) {
   if (ftruncate(file, 0) || lseek(file, 0, SEEK_SET)) fail_search("what a run writes can't be kept");
 }
 
-/* The steps up to the first activation stay as they are. */
+/* What comes before the first activation, in which the last step isn't over. */
+static struct {
+  uint32_t steps, marks, names;
+  step last;
+} before;
+
+static void note_before(const run *r) {
+  before.steps = r->steps;
+  before.marks = r->marks;
+  before.names = r->names;
+  if (r->steps) before.last = r->step[r->steps - 1];
+}
+
 static void clear_run(run *r) {
-  const run *first = jobs[0].run;
-  static uint32_t steps, marks, names;
-  static bool is_known;
-  if (!is_known) {
-    steps = first->steps;
-    marks = first->marks;
-    names = first->names;
-    is_known = true;
-  }
-  r->steps = steps;
-  r->marks = marks;
-  r->names = names;
+  r->steps = before.steps;
+  r->marks = before.marks;
+  r->names = before.names;
+  if (r->steps) r->step[r->steps - 1] = before.last;
   r->end = BY_ITSELF;
   r->is_finished = false;
   r->exception[0] = 0;
@@ -190,67 +198,16 @@ static bool start(job *j) {
 
 /* ---- The ends of runs ---- */
 
-/* The choices of the run, if it is the shortest that was found. */
-static void keep_choices(finding *f, const run *r) {
-  uint32_t i;
-  f->count++;
-  if (f->steps && f->steps <= r->steps) return;
-  f->steps = r->steps;
-  for (i = 0; i < r->steps; i++) f->choice[i] = r->step[i].taken;
+/* A run that was to find a beginning. */
+static void take_beginning(const run *r) {
+  found.divided.runs++;
+  if (r->end != TOO_LONG || r->steps < r->most_steps) end_beginning(r, path);
 }
 
-static void keep_unhandled(const job *j, const char *name, const char *who) {
-  finding *f = &found.unhandled;
-  if (!f->steps || f->steps > j->run->steps) {
-    snprintf(found.exception, sizeof found.exception, "%s", name);
-    snprintf(found.who_raised, sizeof found.who_raised, "%s", who);
-  }
-  keep_choices(f, j->run);
-}
-
-/* The exception that the main program didn't handle, as GNAT says it. */
-static bool read_raised(const job *j, char *name) {
-  char text[1024];
-  const char *at;
-  ssize_t length = pread(j->err, text, sizeof text - 1, 0);
-  text[length > 0 ? length : 0] = 0;
-  at = strstr(text, "raised ");
-  return at && sscanf(at, "raised %127[^ \n]", name) == 1;
-}
-
-static void take_end(const job *j, int status) {
+static void take_schedule(const job *j, int status, unsigned first) {
   const run *r = j->run;
-  char name[EXCEPTION_SIZE];
-  found.whole++;
-  if (WIFSIGNALED(status)) {
-    snprintf(name, sizeof name, "signal %d", WTERMSIG(status));
-    keep_unhandled(j, name, r->turn);
-  } else if (WEXITSTATUS(status) == STUCK_STATUS) {
-    keep_choices(&found.stuck, r);
-  } else if (*r->exception) {
-    keep_unhandled(j, r->exception, r->who_raised);
-  } else if (WEXITSTATUS(status) == 1 && read_raised(j, name)) {
-    keep_unhandled(j, name, "main");
-  }
-  if (wished.ends) count_end(status, j->out);
-  if (wished.ends && wished.plain) count_class(class_of(r));
-}
-
-static bool is_stuck_status(int status) { return WIFEXITED(status) && WEXITSTATUS(status) == STUCK_STATUS; }
-
-static void take_run(job *j, int status) {
-  const run *r = j->run;
-  trial t = j->trial;
-  unsigned first = t.at ? depth_of(t) : 0;
-  j->process = 0;
-  last_depth = r->steps;
-  if (r->end == BY_ITSELF && !is_stuck_status(status) && !r->is_finished) end_by_step(j->run);
-  if (r->end == STRAYED || !take_steps(r, t, path)) {
-    found.strayed++;
-    end_trial(t, t.at);
-    return;
-  }
   if (!wished.plain) find_races(r, path, first);
+  if (wished.shard) count_trial(beginning_of(j->trial), r->end != ASLEEP);
   if (r->end == ASLEEP) {
     found.asleep++;
   } else if (r->end == TOO_LONG) {
@@ -258,7 +215,25 @@ static void take_run(job *j, int status) {
   } else if (r->end == OUTSIDE) {
     found.outside++;
   } else {
-    take_end(j, status);
+    count_schedule(r, status, j->out, j->err);
+  }
+}
+
+static void take_run(job *j, int status) {
+  run *r = j->run;
+  trial t = j->trial;
+  j->process = 0;
+  last_depth = r->steps;
+  if (r->end == BY_ITSELF && !is_stuck_status(status) && !r->is_finished) end_by_step(r);
+  if (r->end == STRAYED || !take_steps(r, t, path)) {
+    found.strayed++;
+    end_trial(t, t.at);
+    return;
+  }
+  if (is_dividing) {
+    take_beginning(r);
+  } else {
+    take_schedule(j, status, t.at ? depth_of(t) : 0);
   }
   end_trial(t, r->steps ? path[r->steps - 1] : t.at);
 }
@@ -281,31 +256,41 @@ static void show_line(bool is_last) {
 }
 
 static bool is_enough(void) {
+  if (found.strayed || found.beyond) return true;
+  if (is_dividing) return false;
   if (wished.runs && (long)(found.whole + found.too_long + found.outside) >= wished.runs) return true;
-  return (wished.seconds && since(&begun) >= (double)wished.seconds) || found.strayed || found.beyond;
+  return wished.seconds && since(&begun) >= (double)wished.seconds;
 }
 
 /* A run that gives no turn for too long is ended. */
-static void look_after(job *j) {
+static bool look_after(job *j) {
   if (j->seen != j->run->turns) {
     j->seen = j->run->turns;
     real_time(&j->since);
-  } else if (wished.patience && since(&j->since) > (double)wished.patience) {
-    snprintf(found.who_is_beyond, sizeof found.who_is_beyond, "%s", j->run->turn);
-    found.beyond++;
-    kill(j->process, SIGKILL);
-    waitpid(j->process, NULL, 0);
-    j->process = 0;
-    end_trial(j->trial, j->trial.at);
   }
+  if (!wished.patience || since(&j->since) <= (double)wished.patience) return true;
+  kill(j->process, SIGKILL);
+  waitpid(j->process, NULL, 0);
+  j->process = 0;
+  return false;
+}
+
+static void note_beyond(const job *j) {
+  snprintf(found.who_is_beyond, sizeof found.who_is_beyond, "%s", j->run->turn);
+  found.beyond++;
+  end_trial(j->trial, j->trial.at);
+}
+
+static void await_child(void) {
+  static const struct timespec pause = {0, 100000000};
+  sigtimedwait(&child_signal, NULL, &pause);
 }
 
 /* Takes the runs that have ended, once there are any. */
 static void await_runs(void) {
-  static const struct timespec pause = {0, 100000000};
   bool is_any = false;
   long i;
-  sigtimedwait(&child_signal, NULL, &pause);
+  await_child();
   for (i = 0; i < wished.jobs; i++) {
     int status;
     if (!jobs[i].process) continue;
@@ -315,7 +300,7 @@ static void await_runs(void) {
     }
   }
   for (i = 0; !is_any && i < wished.jobs; i++) {
-    if (jobs[i].process) look_after(&jobs[i]);
+    if (jobs[i].process && !look_after(&jobs[i])) note_beyond(&jobs[i]);
   }
 }
 
@@ -339,9 +324,9 @@ static bool is_any_running(void) {
   return false;
 }
 
-static bool search(void) {
-  jobs[0].trial.at = NULL;
-  if (start(&jobs[0])) return true;
+/* Tries what is wanted; whether this process is a run. */
+static bool go_on(void) {
+  if (start_runs()) return true;
   while (is_any_running()) {
     await_runs();
     show_line(false);
@@ -354,6 +339,49 @@ static bool search(void) {
   return false;
 }
 
+static bool search(void) {
+  jobs[0].trial.at = NULL;
+  return start(&jobs[0]) || go_on();
+}
+
+/* ---- A search that is divided ---- */
+
+static void limit_steps(uint32_t steps) {
+  long i;
+  for (i = 0; i < wished.jobs; i++) jobs[i].run->most_steps = steps;
+}
+
+/* Tries all beginnings of schedules, of one step more each time, until there are enough for the shards. Whether this
+   process is a run. */
+static bool divide(void) {
+  uint32_t steps = before.steps + 1;
+  is_dividing = true;
+  lengthen_beginnings(steps);
+  limit_steps(steps);
+  if (search()) return true;
+  while (!is_enough() && count_beginnings() < (unsigned)(BEGINNINGS * wished.shards) && steps < wished.steps &&
+         lengthen_beginnings(++steps)) {
+    limit_steps(steps);
+    if (go_on()) return true;
+  }
+  is_dividing = false;
+  limit_steps((uint32_t)wished.steps);
+  return false;
+}
+
+/* Each shard finds all beginnings, and goes on from its own. A schedule without a step is the first shard's. */
+static bool search_shard(void) {
+  division own = {(unsigned)wished.shard, (unsigned)wished.shards};
+  unsigned beginnings;
+  if (divide()) return true;
+  if (found.strayed || found.beyond) return false;
+  beginnings = number_beginnings();
+  begin_tallies(beginnings ? beginnings : 1);
+  if (!beginnings) return wished.shard == 1 && search();
+  want_beginnings(own);
+  return go_on();
+}
+
 static void prepare(void) {
   real_time(&begun);
   sched_getaffinity(0, sizeof processors, &processors);
@@ -363,27 +391,56 @@ static void prepare(void) {
   input = STDIN_FILENO;
   input_at = lseek(input, 0, SEEK_CUR);
   begin_tree(wished.plain, wished.preemptions < 0 ? UINT32_MAX : (unsigned)wished.preemptions);
+  note_before(jobs[0].run);
   begin_jobs();
 }
 
-/* A run that writes its choices by the names of tasks, and nothing else. */
+/* ---- What is found ---- */
+
+/* Starts a run by some choices; whether this process is it. */
+static bool play(job *j, const choice *choices, uint32_t steps) {
+  j->run->prefix = steps;
+  j->run->sleepers = 0;
+  memcpy(j->run->chosen, choices, steps * sizeof *choices);
+  return start(j);
+}
+
+/* Whether the run comes to its end, and shows what was found. */
+static bool ends_as_found(job *j, const finding *f) {
+  int status;
+  while (waitpid(j->process, &status, WNOHANG) != j->process) {
+    await_child();
+    if (!look_after(j)) return false;
+  }
+  return shows_again(f, j->run, status, j->err);
+}
+
+/* A run that writes its choices by the names of tasks, and nothing else: in the least order of their class; or as they
+   were found, if that shows something else, as it may by what the search doesn't see. */
 static bool write_found(const finding *f) {
   job *j = &jobs[0];
-  j->run->prefix = f->steps;
-  j->run->sleepers = 0;
-  memcpy(j->run->chosen, f->choice, f->steps * sizeof *f->choice);
-  if (start(j)) return true;
-  waitpid(j->process, NULL, 0);
+  if (play(j, f->least, f->steps)) return true;
+  if (ends_as_found(j, f)) return false;
+  if (play(j, f->choice, f->steps)) return true;
+  ends_as_found(j, f);
   return false;
 }
 
 static bool is_begun;
 
-/* A program that activates no task has one schedule. */
+/* The status with which the search ends. */
+static int finish(bool is_any_left) {
+  if (wished.shard && found.divided.beginnings) write_findings(folder, is_any_left);
+  return write_verdict(folder, is_any_left);
+}
+
+/* A program that activates no task has one schedule, the first shard's. */
 void end_search(void) {
   if (!is_searched || is_begun) return;
-  found.whole = 1;
-  _exit(write_verdict(folder, false));
+  if (!wished.merge) found.whole = wished.shard < 2;
+  if (wished.shard) begin_tallies(1);
+  if (wished.shard == 1) count_trial(1, true);
+  _exit(finish(is_cut_short));
 }
 
 /* Before the first activation. Returns in each run alone; the search itself ends the process. */
@@ -392,12 +449,12 @@ void search_from_here(void) {
   if (is_begun) return;
   is_begun = true;
   prepare();
-  if (search()) return;
+  if (!wished.merge && (wished.shard ? search_shard() : search())) return;
   show_line(true);
   f = found.stuck.count ? &found.stuck : &found.unhandled;
-  if (f->count && write_found(f)) {
+  if (f->count && !wished.shard && write_found(f)) {
     name_choices(folder);
     return;
   }
-  _exit(write_verdict(folder, is_cut_short || !is_tree_done()));
+  _exit(finish(is_cut_short || !is_tree_done()));
 }

@@ -13,12 +13,13 @@ run *this_run;
 static bool meet(mark one, mark other) {
   if (one.whose == EVERYBODY || other.whose == EVERYBODY) return true;
   if (one.whose != other.whose) return false;
+  if (one.what == USES || other.what == USES) return one.what == other.what;
   if (one.what == CHANGES || other.what == CHANGES) return one.what == other.what;
   return one.what != other.what;
 }
 
 /* Whether the order of two steps may make a difference: whether both change a task's state, or one ends a task and the
-   other asks whether it has. */
+   other asks whether it has, or both use a protected object. */
 bool depend(footprint one, footprint other) {
   unsigned i, j;
   for (i = 0; i < one.count; i++) {
@@ -87,6 +88,8 @@ static uint16_t number_of(const task *t) {
 void add_change(const task *t) { note(number_of(t), CHANGES); }
 
 void add_look(const task *t) { note(number_of(t), LOOKS_AT); }
+
+void add_use(uint16_t object) { note(object, USES); }
 
 void add_change_of_all(void) { note(EVERYBODY, CHANGES); }
 

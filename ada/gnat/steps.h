@@ -14,10 +14,11 @@ enum { MOST_STEPS = 10000, MOST_MARKS = 8 * MOST_STEPS, MOST_NAMES = 32 * MOST_S
 /* Whose mark is everybody's. */
 enum { EVERYBODY = UINT16_MAX };
 
-/* What a step does with a task: changes its state; asks whether it is terminated or callable; terminates it. */
-enum { CHANGES, LOOKS_AT, ENDS };
+/* What a step does with a task: changes its state; asks whether it is terminated or callable; terminates it. Or it uses
+   a protected object. */
+enum { CHANGES, LOOKS_AT, ENDS, USES };
 
-/* One mark of a footprint, by the kernel's number of the task. */
+/* One mark of a footprint, by the kernel's number of the task, or by that of the object. */
 typedef struct {
   uint16_t whose, what;
 } mark;
@@ -101,9 +102,34 @@ void want(node *n, uint16_t who);
 void want_all(node *n);
 unsigned depth_of(trial t);
 
+/* ---- Beginnings of schedules, which are divided among shards: tree.c ---- */
+
+/* One of so many shards, from 1. */
+typedef struct {
+  unsigned shard, shards;
+} division;
+
+/* Beginnings are mixed, since such as lie in a row have more or less after them by turns. */
+static inline unsigned shard_of(unsigned beginning, unsigned shards) {
+  return (unsigned)((beginning * UINT64_C(0x9e3779b97f4a7c15)) >> 32) % shards + 1;
+}
+
+static inline bool is_of_shard(unsigned beginning, const division *by) {
+  return shard_of(beginning, by->shards) == by->shard;
+}
+
+bool lengthen_beginnings(unsigned steps);
+void end_beginning(const run *r, node *const *path);
+unsigned count_beginnings(void);
+unsigned number_beginnings(void);
+void want_beginnings(division by);
+unsigned beginning_of(trial t);
+void write_beginnings(FILE *to);
+
 /* ---- Races: races.c ---- */
 
 void find_races(const run *r, node *const *path, unsigned first);
+void put_in_order(const run *r, choice *to);
 uint64_t class_of(const run *r);
 
 #endif

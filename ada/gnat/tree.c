@@ -1,6 +1,7 @@
 /* SPDX-License-Identifier: MIT */
 /* The tree of choices that a search goes through. A node has a branch for each candidate, and for each other pick of
-   its wait. Which are tried is said by the races that are found; or all are. */
+   its wait. Which are tried is said by the races that are found; or all are. Where a search is divided, the first
+   nodes are kept, and each of their branches is tried by one of its shards. */
 
 #include "steps.h"
 #include <stdlib.h>
@@ -13,6 +14,9 @@ typedef struct {
   bool is_known;    /* whether its footprint is */
   mark *mark;
   unsigned marks;
+  node *below;        /* what comes after it, as long as that is kept */
+  bool is_over;       /* whether a run had no further step after it */
+  unsigned beginning; /* its number among the beginnings of schedules, or 0 */
 } branch;
 
 /* A task that sleeps at a node. The marks are those of a branch above. */
@@ -39,6 +43,9 @@ static unsigned most_preemptions;
 static node *heads[MOST_STEPS];
 static unsigned deepest;
 static uint64_t all_wanted, all_running;
+/* The first node, and how many steps long the beginnings are: nodes above are kept, and tried in all their branches. */
+static node *root;
+static unsigned cut;
 
 void begin_tree(bool all, unsigned most) {
   is_plain = all;
@@ -180,7 +187,7 @@ static unsigned sleepers_after(const node *n, const branch *taken, dreamer *to) 
   }
   for (i = 0; i < n->candidates; i++) {
     const branch *b = &n->branch[i];
-    if (b->state != TRIED || !b->is_known || b->order >= taken->order) continue;
+    if (!b->order || !b->is_known || b->order >= taken->order) continue;
     to[count].who = b->taken.who;
     to[count].print.mark = b->mark;
     to[count++].print.count = b->marks;
@@ -244,7 +251,7 @@ static void want_others(node *n) {
   unsigned i;
   for (i = 0; i < n->candidates; i++) {
     unsigned preemptions = n->preemptions + (n->goes_on && i > 0);
-    if (preemptions <= most_preemptions) want_branch(n, &n->branch[i]);
+    if (preemptions <= most_preemptions) want(n, n->branch[i].taken.who);
   }
 }
 
@@ -267,15 +274,17 @@ static node *new_node(const run *r, unsigned depth, node *parent, unsigned via) 
   n->branch = get(NULL, n->branches * sizeof *n->branch);
   memset(n->branch, 0, n->branches * sizeof *n->branch);
   for (i = 0; i < n->branches; i++) n->branch[i].taken.who = r->name[s->first_candidate + i];
+  if (!parent) root = n;
   if (parent) {
     parent->children++;
+    parent->branch[via].below = n;
     n->preemptions = parent->preemptions + is_preemption(parent, via);
     if (!is_plain) fall_asleep(n, parent, via);
   }
   b = first_of(n, s->taken.who);
   mark_tried(n, b);
   know(b, footprint_of(r, s));
-  if (is_plain) want_others(n);
+  if (is_plain || depth < cut) want_others(n);
   want_picks(n, s);
   return n;
 }
@@ -335,10 +344,119 @@ void end_trial(trial t, node *last) {
     all_running--;
     t.at->running--;
   }
-  while (n && !n->wanted && !n->running && !n->children) {
+  while (n && n->depth >= cut && !n->wanted && !n->running && !n->children) {
     node *parent = n->parent;
     if (parent) parent->children--;
+    if (parent) parent->branch[n->via].below = NULL;
     drop_node(n);
     n = parent;
   }
 }
+
+/* ---- Beginnings of schedules, which shards have each their own of ---- */
+
+/* Is told the last branch of a beginning. */
+typedef void visit(node *n, branch *b, void *with);
+
+/* Beginnings that have numbers stay as they are, whatever is tried after them. */
+static void visit_beginnings(node *n, visit *look, void *with) {
+  unsigned i;
+  for (i = 0; n && i < n->branches; i++) {
+    branch *b = &n->branch[i];
+    if (b->below && !b->beginning) {
+      visit_beginnings(b->below, look, with);
+    } else if (b->order && b->state != LEFT_OUT) {
+      look(n, b, with);
+    }
+  }
+}
+
+static void want_again(node *n, branch *b) {
+  b->state = LEFT_OUT;
+  want_branch(n, b);
+}
+
+static void want_longer(node *n, branch *b, void *with) {
+  (void)with;
+  if (!b->is_over) want_again(n, b);
+}
+
+/* From now on beginnings have so many steps, if schedules have: those that are known are wanted with one step more.
+   Whether any is. */
+bool lengthen_beginnings(unsigned steps) {
+  cut = steps;
+  visit_beginnings(root, want_longer, NULL);
+  return !is_tree_done();
+}
+
+/* The run had no further step, or all that would go on slept. */
+void end_beginning(const run *r, node *const *path) {
+  if (r->steps) branch_of(path[r->steps - 1], r->step[r->steps - 1].taken)->is_over = true;
+}
+
+static void count_beginning(node *n, branch *b, void *with) {
+  (void)n;
+  *(unsigned *)with += !b->is_over;
+}
+
+/* How many can be gone on from. */
+unsigned count_beginnings(void) {
+  unsigned count = 0;
+  visit_beginnings(root, count_beginning, &count);
+  return count;
+}
+
+static void number_beginning(node *n, branch *b, void *with) {
+  (void)n;
+  b->beginning = ++*(unsigned *)with;
+}
+
+/* Gives the beginnings their numbers, from 1, once they aren't lengthened any more. How many there are. */
+unsigned number_beginnings(void) {
+  unsigned count = 0;
+  visit_beginnings(root, number_beginning, &count);
+  return count;
+}
+
+static void want_own(node *n, branch *b, void *with) {
+  const division *by = with;
+  if (is_of_shard(b->beginning, by)) want_again(n, b);
+}
+
+/* Those of a shard are wanted, to be gone on from. */
+void want_beginnings(division by) { visit_beginnings(root, want_own, &by); }
+
+/* The beginning of a trial; 0 if there is none. */
+unsigned beginning_of(trial t) {
+  const node *n = t.at;
+  unsigned via = t.branch;
+  while (n && !n->branch[via].beginning) {
+    via = n->via;
+    n = n->parent;
+  }
+  return n ? n->branch[via].beginning : 0;
+}
+
+static void write_path(FILE *to, const node *n, const branch *b) {
+  if (n->parent) write_path(to, n->parent, &n->parent->branch[n->via]);
+  fprintf(to, " %u", b->taken.who);
+  if (b->taken.pick) fprintf(to, "/%u", b->taken.pick);
+}
+
+/* Its choices, and who sleeps after them, by the kernel's numbers. */
+static void write_beginning(node *n, branch *b, void *with) {
+  FILE *to = with;
+  dreamer *all = get(NULL, (n->dreamers + n->candidates) * sizeof *all);
+  footprint print = {b->mark, b->marks};
+  unsigned i, count = is_plain ? 0 : sleepers_after(n, b, all);
+  fprintf(to, "beginning %u:", b->beginning);
+  write_path(to, n, b);
+  fputs(" asleep", to);
+  for (i = 0; i < count; i++) {
+    if (!depend(all[i].print, print)) fprintf(to, " %u", all[i].who);
+  }
+  putc('\n', to);
+  free(all);
+}
+
+void write_beginnings(FILE *to) { visit_beginnings(root, write_beginning, to); }

@@ -4,23 +4,14 @@
 #define _POSIX_C_SOURCE 200809L
 #include "search.h"
 #include <errno.h>
+#include <inttypes.h>
 #include <stdlib.h>
 #include <string.h>
 #include <sys/wait.h>
 #include <unistd.h>
 
-/* How a search ends. */
-enum { TRIED_STATUS = 0, FOUND_STATUS = 3, FILE_STATUS = 4, UNKNOWN_STATUS = 5 };
-
-/* So many different ends are told apart, each by so much of what the program prints. */
-enum { MOST_ENDS = 256, OUTPUT_SIZE = 4096, PATH_SIZE = 4096 };
-
-typedef struct {
-  int status;
-  size_t length;
-  char *output;
-  unsigned long count;
-} end_of_runs;
+/* So many different ends are told apart. */
+enum { MOST_ENDS = 256 };
 
 static end_of_runs ends[MOST_ENDS];
 static unsigned end_count;
@@ -67,26 +58,31 @@ void count_class(uint64_t number) {
   class_count += put_class(classes, class_room, number ? number : 1);
 }
 
+void add_other_ends(unsigned long count) { other_ends += count; }
+
+/* So many schedules ended so. */
+void add_end(const end_of_runs *end) {
+  end_of_runs *to = ends;
+  while (to < ends + end_count && !is_end(to, end->status, end->output, end->length)) to++;
+  if (to < ends + end_count) {
+    to->count += end->count;
+  } else if (end_count == MOST_ENDS || !(to->output = malloc(end->length + 1))) {
+    add_other_ends(end->count);
+  } else {
+    memcpy(to->output, end->output, end->length);
+    to->status = end->status;
+    to->length = end->length;
+    to->count = end->count;
+    end_count++;
+  }
+}
+
 /* A schedule ended so, and the program printed that. */
 void count_end(int status, int out) {
   char output[OUTPUT_SIZE];
   ssize_t read = pread(out, output, sizeof output, 0);
-  size_t length = read > 0 ? (size_t)read : 0;
-  unsigned i = 0;
-  while (i < end_count && !is_end(&ends[i], status, output, length)) i++;
-  if (i < end_count) {
-    ends[i].count++;
-    return;
-  }
-  if (end_count == MOST_ENDS || !(ends[i].output = malloc(length + 1))) {
-    other_ends++;
-    return;
-  }
-  memcpy(ends[i].output, output, length);
-  ends[i].status = status;
-  ends[i].length = length;
-  ends[i].count = 1;
-  end_count++;
+  end_of_runs end = {status, read > 0 ? (size_t)read : 0, output, 1};
+  add_end(&end);
 }
 
 static int compare_ends(const void *one, const void *other) {
@@ -126,10 +122,41 @@ static void write_ends(FILE *to) {
   if (other_ends) fprintf(to, "end: others, in %lu schedules\n", other_ends);
 }
 
+/* ---- For a merge of shards ---- */
+
+static void write_end_found(FILE *to, const end_of_runs *end) {
+  size_t i;
+  fprintf(to, "end %d %lu ", end->status, end->count);
+  for (i = 0; i < end->length; i++) fprintf(to, "%02x", (unsigned)(unsigned char)end->output[i]);
+  putc('\n', to);
+}
+
+void write_ends_found(FILE *to) {
+  unsigned i;
+  qsort(ends, end_count, sizeof *ends, compare_ends);
+  for (i = 0; i < end_count; i++) write_end_found(to, &ends[i]);
+  if (other_ends) fprintf(to, "others %lu\n", other_ends);
+}
+
+void write_classes_found(FILE *to) {
+  size_t i;
+  for (i = 0; i < class_room; i++) {
+    if (classes[i]) fprintf(to, "class %" PRIx64 "\n", classes[i]);
+  }
+}
+
 /* ---- The verdict ---- */
+
+/* What one shard has found, which says nothing of the others. */
+static int write_line_of_shard(FILE *to) {
+  fprintf(to, "shard %ld of %ld: %lu schedules tried, %lu stuck, %lu unhandled\n", wished.shard, wished.shards,
+          found.whole, found.stuck.count, found.unhandled.count);
+  return TRIED_STATUS;
+}
 
 /* The first line: what was found of all that was tried. */
 static int write_first_line(FILE *to, bool is_any_left) {
+  if (wished.shard && found.divided.beginnings) return write_line_of_shard(to);
   if (found.stuck.count) {
     fprintf(to, "stuck: after %u steps, in %lu of %lu schedules\n", (unsigned)found.stuck.steps, found.stuck.count,
             found.whole);
@@ -172,17 +199,23 @@ static void write_rest(FILE *to, bool is_any_left) {
             found.whole, found.exception, found.who_raised);
   }
   write_left_out(to);
-  if (is_any_left && (found.stuck.count || found.unhandled.count)) fputs("More schedules are left.\n", to);
+  if (is_any_left && (found.stuck.count || found.unhandled.count || wished.shard)) {
+    fputs("More schedules are left.\n", to);
+  }
+  if (wished.merge) {
+    fprintf(to, "Of %ld shards; each found the %u beginnings by %lu short runs.\n", wished.merge,
+            found.divided.beginnings, found.divided.runs);
+  }
   if (wished.plain) {
     fputs("Each schedule is an order of steps, each of which ends at a tasking operation. Orders of what lies within\n"
           "steps, as uses of variables that tasks share, weren't tried.\n", to);
   } else {
-    fputs("Of orders that differ only in independent steps one was tried. Variables and protected objects that tasks\n"
-          "share aren't seen by this: --plain tries each order of steps.\n", to);
+    fputs("Of orders that differ only in independent steps one was tried. Variables that tasks share aren't seen by\n"
+          "this: --plain tries each order of steps.\n", to);
   }
 }
 
-static FILE *open_in(const char *folder, const char *name) {
+FILE *open_in(const char *folder, const char *name) {
   char path[PATH_SIZE];
   FILE *file;
   snprintf(path, sizeof path, "%s/%s", folder, name);
