@@ -145,11 +145,12 @@ fn write_place(text: &mut String, place: usize) -> Result<(), AllocError> {
     }
 }
 
-/// The position of the event by which a call was met, if it was.
-fn meeting_of(scene: Scene<'_>, call: u32) -> Option<u32> {
-    for (i, event) in scene.events.iter().enumerate() {
-        match event {
-            Event::Met { call: met, .. } if *met == call => return Some(i as u32 + 1),
+/// The position of the event by which a call was met, if it was. It is looked for from the end on.
+pub fn meeting_of(scene: Scene<'_>, call: u32) -> Option<u32> {
+    for back in 0..scene.events.len() {
+        let at = scene.events.len() - back;
+        match scene.events.get(at - 1) {
+            Some(Event::Met { call: met, .. }) if *met == call => return Some(at as u32),
             _ => {}
         }
     }

@@ -40,8 +40,8 @@ pub fn write_standstill(text: &mut String, scene: Scene<'_>) -> Result<Standstil
     })
 }
 
-// What one task does, if it isn't terminated.
-fn write_task(text: &mut String, end: &End<'_>, task: TaskNo) -> Result<(), AllocError> {
+/// Appends what one task does, if it isn't terminated.
+pub fn write_task(text: &mut String, end: &End<'_>, task: TaskNo) -> Result<(), AllocError> {
     match end.reason(task) {
         Some(reason) => {
             write!(text, "  ")?;
@@ -134,7 +134,8 @@ fn write_circle(text: &mut String, scene: Scene<'_>, circle: &[TaskNo]) -> Resul
     write!(text, " for {}.\n", scene.task(*first))
 }
 
-fn write_verdict(text: &mut String, end: &End<'_>, verdict: Verdict) -> Result<(), AllocError> {
+/// Appends what can let the journal go on, if the main program isn't terminated.
+pub fn write_verdict(text: &mut String, end: &End<'_>, verdict: Verdict) -> Result<(), AllocError> {
     match verdict {
         Verdict::Finished => Ok(()),
         Verdict::GoesOn => {

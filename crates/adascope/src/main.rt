@@ -10,6 +10,8 @@ pub mod input;
 pub mod obeying;
 pub mod order;
 pub mod output;
+pub mod page_order;
+pub mod paging;
 pub mod painting;
 pub mod report;
 pub mod schedules;

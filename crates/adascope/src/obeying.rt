@@ -6,6 +6,7 @@ use crate::exploring::tell_schedules;
 use crate::fixing::tell_repairs;
 use crate::order::{Job, What};
 use crate::output::write_text;
+use crate::paging::tell_pages;
 use crate::painting::{Kind, painted};
 use ada_explain::{Explanation, explain};
 use ada_findings::{Failure, Finding, Form, ScopeFault, check};
@@ -60,6 +61,7 @@ pub fn obey<'a, R: Files + Input + Print + Eprint + Clock + AllocGlobal>(
             told.map_err(|fault| failure(order.file, fault))
         }
         Job::Check(order) => tell_checks(rt, &order),
+        Job::Page(order) => tell_pages(rt, &order),
         Job::Fix(order) => tell_repairs(rt, &order, is_colored).map_err(|fault| failure(
             order.file, fault,
         )),

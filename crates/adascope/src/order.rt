@@ -1,5 +1,6 @@
 //! The command line: what its words order.
 
+use crate::page_order::{Paging, page, paged};
 use ada_expectations::Form;
 use clap::{Arg, ArgAction, ArgMatches, Command, Error, value_parser};
 use std::alloc::{AllocError, Global};
@@ -51,6 +52,8 @@ pub enum Job<'a> {
     Check(Checking<'a>),
     /// To repair a script where it is certain how.
     Fix(Repairing<'a>),
+    /// To show plays as a page.
+    Page(Paging<'a>),
 }
 
 /// A check of some plays.
@@ -220,7 +223,8 @@ static REPORT: &str =
 
 static REPORTS: [&str; 3] = ["text", "json", "junit"];
 
-static SCRIPTS: &str = "The files that have the scripts, or - for the standard input";
+/// What the scripts of a command are.
+pub(crate) static SCRIPTS: &str = "The files that have the scripts, or - for the standard input";
 
 static EXPLORE: &str = "Search all schedules of a script for one that gets stuck";
 
@@ -450,6 +454,7 @@ fn others<'a>(alloc: Global, program: Command<'a>) -> Result<Command<'a>, AllocE
         .subcommand(compare(alloc)?)?
         .subcommand(conform(alloc)?)?
         .subcommand(check(alloc)?)?
+        .subcommand(page(alloc)?)?
         .subcommand(explore(alloc)?)
 }
 
@@ -475,6 +480,7 @@ fn ordered<'a>(alloc: Global, matches: &ArgMatches<'a>) -> Result<Order<'a>, All
         }),
         Some(("explore", found)) => plain(Job::Explore(searched(found))),
         Some(("check", found)) => plain(Job::Check(checked(alloc, found)?)),
+        Some(("page", found)) => plain(Job::Page(paged(alloc, found)?)),
         Some((_, found)) => Order {
             job: tell(What::Explanation, found, found.get_flag("strict")),
             color: color_in(found),
