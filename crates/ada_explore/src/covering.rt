@@ -65,9 +65,9 @@ fn is_covered_by(
     state: usize,
 ) -> Result<bool, Halt>
     ensures { IfOk result (λ covered. covered ≡ true
-        → Reaches (scripts.scripted space.picks space.script.now)
+        → Reaches (scripts.scripted space.entry.picks space.entry.script.now)
         (scripts.at said.now.kernel said.now.left.items said.now.names)
-        → AreCovering space.picks space.script.now states.now
+        → AreCovering space.entry.picks space.entry.script.now states.now
         (scripts.at said.now.kernel said.now.left.items said.now.names)) }
 {
     match states.schedule(state) {
@@ -87,9 +87,9 @@ fn is_covered(
     key: &Vec<u8>,
 ) -> Result<bool, Halt>
     ensures { IfOk result (λ covered. covered ≡ true
-        → Reaches (scripts.scripted space.picks space.script.now)
+        → Reaches (scripts.scripted space.entry.picks space.entry.script.now)
         (scripts.at said.now.kernel said.now.left.items said.now.names)
-        → AreCovering space.picks space.script.now states.now
+        → AreCovering space.entry.picks space.entry.script.now states.now
         (scripts.at said.now.kernel said.now.left.items said.now.names)) }
 {
     match states.with_key(key) {
@@ -107,9 +107,10 @@ fn meet(
     key: Vec<u8>,
 ) -> Result<bool, Halt>
     ensures { IfOk result (λ met. met ≡ true
-        → Comes (scripts.scripted space.picks space.script.now) (reverse schedule)
+        → Comes (scripts.scripted space.entry.picks space.entry.script.now) (reverse schedule)
         (scripts.at said.now.kernel said.now.left.items said.now.names)
-        → AreKept states.old states.new × AreCovering space.picks space.script.now states.new
+        → AreKept states.old states.new
+        × AreCovering space.entry.picks space.entry.script.now states.new
         (scripts.at said.now.kernel said.now.left.items said.now.names)) }
 {
     if !is_alike(space.alloc, space.script.lines(), said, said)? {
@@ -127,9 +128,10 @@ fn cover(
     schedule: Schedule,
 ) -> Result<bool, Halt>
     ensures { IfOk result (λ covered. covered ≡ true
-        → Comes (scripts.scripted space.picks space.script.now) (reverse schedule)
+        → Comes (scripts.scripted space.entry.picks space.entry.script.now) (reverse schedule)
         (scripts.at said.now.kernel said.now.left.items said.now.names)
-        → AreKept states.old states.new × AreCovering space.picks space.script.now states.new
+        → AreKept states.old states.new
+        × AreCovering space.entry.picks space.entry.script.now states.new
         (scripts.at said.now.kernel said.now.left.items said.now.names)) }
 {
     let key = key_of(space.alloc, space.script.lines(), said).map_err(|_| Halt::Memory)?;
@@ -150,7 +152,7 @@ fn cover_turn(
     requires { Comes (scripts.scripted space.picks space.script.now) (reverse path.now)
         (scripts.at standing.now.kernel standing.now.left.items standing.now.names) }
     ensures { IfOk result (λ covered. covered ≡ true → AreKept states.old states.new
-        × LeadsOnAfter space.picks space.script.now states.new path.now turn) }
+        × LeadsOnAfter space.entry.picks space.entry.script.now states.new path.now turn) }
 {
     let mut said = standing.copy(space.alloc)?;
     said.say(space.script.lines(), space.picks, turn)?;
@@ -170,8 +172,8 @@ fn cover_pick(
     requires { Comes (scripts.scripted space.picks space.script.now) (reverse path.now)
         (scripts.at standing.now.kernel standing.now.left.items standing.now.names) }
     ensures { IfOk result (λ covered. covered ≡ true → AreKept states.old states.new
-        × (may_have_pick space.picks space.script.now place (Some pick) ≡ true
-        → LeadsOnAfter space.picks space.script.now states.new path.now
+        × (may_have_pick space.entry.picks space.entry.script.now place (Some pick) ≡ true
+        → LeadsOnAfter space.entry.picks space.entry.script.now states.new path.now
         (turn_of place (Some pick)))) }
 {
     let turn = Turn {
@@ -196,7 +198,8 @@ fn cover_picks(
     requires { Comes (scripts.scripted space.picks space.script.now) (reverse path.now)
         (scripts.at standing.now.kernel standing.now.left.items standing.now.names) }
     ensures { IfOk result (λ covered. covered ≡ true
-        → LeadOnBelow space.picks space.script.now states.old states.new path.now place below) }
+        → LeadOnBelow space.entry.picks space.entry.script.now states.old states.new path.now
+        place below) }
 {
     let written = Turn { place, pick: None };
     if !cover_turn(space, states, path, standing, written)? {
@@ -221,9 +224,9 @@ fn cover_line(
     requires { Comes (scripts.scripted space.picks space.script.now) (reverse path.now)
         (scripts.at standing.now.kernel standing.now.left.items standing.now.names) }
     ensures { IfOk result (λ covered. covered ≡ true → AreKept states.old states.new
-        × (scripts.may_come space.script.now standing.now.kernel
+        × (scripts.may_come space.entry.script.now standing.now.kernel
         (scripts.rest standing.now.left.items standing.now.names) place ≡ true
-        → AllLeadOn space.picks space.script.now states.new path.now place)) }
+        → AllLeadOn space.entry.picks space.entry.script.now states.new path.now place)) }
 {
     let script = space.script.lines();
     if !standing.may_come(script, place) {
@@ -243,7 +246,7 @@ fn cover_lines(
     requires { Comes (scripts.scripted space.picks space.script.now) (reverse path.now)
         (scripts.at standing.now.kernel standing.now.left.items standing.now.names) }
     ensures { IfOk result (λ covered. covered ≡ true
-        → AreCovered space.picks space.script.now states.old states.new path.now
+        → AreCovered space.entry.picks space.entry.script.now states.old states.new path.now
         (scripts.at standing.now.kernel standing.now.left.items standing.now.names)
         (length standing.now.left.items)) }
 {
@@ -263,7 +266,7 @@ fn go_on(
     path: &[Turn],
 ) -> Result<bool, Halt>
     ensures { IfOk result (λ done. done ≡ true → AreKept states.old states.new
-        × IsDone space.picks space.script.now wanted.now states.new path.now) }
+        × IsDone space.entry.picks space.entry.script.now wanted.now states.new path.now) }
 {
     let standing = follow(space, path)?;
     if !wanted.is_met(&standing)? {
@@ -280,8 +283,9 @@ fn go_on_from(
     state: usize,
 ) -> Result<bool, Halt>
     ensures { IfOk result (λ done. done ≡ true → (start : List TurnValue)
-        → AreDone space.picks space.script.now wanted.now start states.old state
-        → AreDone space.picks space.script.now wanted.now start states.new (state + 1)) }
+        → AreDone space.entry.picks space.entry.script.now wanted.now start states.old state
+        → AreDone space.entry.picks space.entry.script.now wanted.now start states.new
+        (state + 1)) }
 {
     let Some(schedule) = states.schedule(state) else {
         return Ok(false);
@@ -293,7 +297,7 @@ fn go_on_from(
 // What a schedule leads to alone, if that stands in for itself.
 fn begin(space: Space<'_>, start: &[Turn]) -> Result<Option<States>, Halt>
     ensures { IfOk result (λ begun. IfSome begun (λ states.
-        IsBegun space.picks space.script.now start.now states)) }
+        IsBegun space.entry.picks space.entry.script.now start.now states)) }
 {
     let mut states = States::new(space.alloc);
     let standing = follow(space, start)?;
@@ -315,7 +319,7 @@ fn cover_all<W: Watch>(
     watch: &mut W,
 ) -> Result<Option<u32>, Halt>
     ensures { IfOk result (λ found. IfSome found (λ states.
-        StaysWell space.picks space.script.now wanted.now start.now)) }
+        StaysWell space.entry.picks space.entry.script.now wanted.now start.now)) }
 {
     if space.script.lines().len() > MOST_LINES {
         return Err(Halt::TooLong);
@@ -350,7 +354,7 @@ fn is_ended<W: Watch>(states: &States, state: u32, watch: &mut W) -> bool {
 /// script may have.
 pub fn covered_by<W: Watch>(space: Space<'_>, most: u32, watch: &mut W) -> Result<Option<u32>, Halt>
     ensures { IfOk result (λ found. IfSome found (λ states.
-        NoneGetsStuck space.picks space.script.now)) }
+        NoneGetsStuck space.entry.picks space.entry.script.now)) }
 {
     cover_all(space, &[], &Wanted::Free, most, watch)
 }
@@ -366,7 +370,7 @@ pub fn never_says<W: Watch>(
     watch: &mut W,
 ) -> Result<bool, Halt>
     ensures { IfOk result (λ never. never ≡ true
-        → NeverSays space.picks space.script.now path.now places.now) }
+        → NeverSays space.entry.picks space.entry.script.now path.now places.now) }
 {
     let places = Vec::from_slice(space.alloc, places).map_err(|_| Halt::Memory)?;
     let found = cover_all(space, path, &Wanted::Left(places), most, watch)?;

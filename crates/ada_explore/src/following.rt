@@ -8,7 +8,7 @@ use crate::{Halt, Space, Standing, Turn};
 /// Where a schedule of a script comes to: these turns, one after another, on a new kernel. An `Err` says why it doesn't
 /// go on at one of them.
 pub fn follow(space: Space<'_>, path: &[Turn]) -> Result<Standing, Halt>
-    ensures { IfOk result (λ end. Comes (scripts.scripted space.picks space.script.now)
+    ensures { IfOk result (λ end. Comes (scripts.scripted space.entry.picks space.entry.script.now)
         (reverse path.now) (scripts.at end.kernel end.left.items end.names)) }
 {
     let mut standing = Standing::new(space)?;

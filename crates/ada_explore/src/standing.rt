@@ -144,7 +144,7 @@ impl Standing {
     /// The beginning of all schedules of a script.
     pub fn new(space: Space<'_>) -> Result<Self, Halt>
         ensures { IfOk result (λ new. scripts.at new.kernel new.left.items new.names
-            ≡ beginning (scripts.scripted space.picks space.script.now)) }
+            ≡ beginning (scripts.scripted space.entry.picks space.entry.script.now)) }
     {
         let names = space.script.names().map_err(|_| Halt::Memory)?;
         let left = asking(space.alloc, space.script.lines(), &names)?;
