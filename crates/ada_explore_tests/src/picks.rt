@@ -71,34 +71,44 @@ fn finds_the_pick_that_gets_stuck(rt: HostRuntime) -> Result<(), Fail> {
     Ok(())
 }
 
-// Lines of a task; `#` stands for a pick.
-fn write_body(text: &mut String, dice: &mut Dice, me: &str, other: &str) -> Result<(), AllocError> {
-    match dice.below(8) {
-        0 | 1 => write!(text, "{me}: select # accept E or accept F\n{me}: end\n"),
-        2 => write!(
-            text,
-            "{me}: select # accept E or delay 5 or delay 5\n{me}: end\n"
-        ),
-        3 => write!(text, "{me}: call {other} E\n"),
-        4 => write!(text, "{me}: call {other} F\n"),
-        5 => write!(text, "{me}: delay 5\n"),
-        6 => write!(text, "{me}: accept F\n{me}: end\n"),
-        _ => Ok(()),
+// A selective wait of A, whose pick `#` stands for, and what A accepts after it.
+fn write_waits(text: &mut String, dice: &mut Dice) -> Result<(), AllocError> {
+    if dice.one_in(2) {
+        text.push_str("A: delay 5\n")?;
+    }
+    text.push_str(match dice.below(4) {
+        0 => "A: select # accept E or delay 5 or delay 5\nA: end\n",
+        _ => "A: select # accept E or accept F\nA: end\n",
+    })?;
+    text.push_str(match dice.below(4) {
+        0 => "A: accept E\nA: end\n",
+        1 => "A: accept F\nA: end\n",
+        2 => "A: select # accept F or accept E\nA: end\n",
+        _ => "",
+    })
+}
+
+// A call of A.
+fn write_call(text: &mut String, dice: &mut Dice, me: &str) -> Result<(), AllocError> {
+    match dice.below(6) {
+        0 | 1 => write!(text, "{me}: call A E\n"),
+        2 | 3 => write!(text, "{me}: call A F\n"),
+        4 => write!(text, "{me}: call A E within 5\n"),
+        _ => write!(text, "{me}: try A F\n"),
     }
 }
 
-// Two tasks or three, some lines each; the main program ends.
+// A task that waits for calls, and two that call it: another one and the main program.
 fn script_text(alloc: Global, dice: &mut Dice) -> Result<String, AllocError> {
     let mut text = String::new(alloc);
-    text.push_str("main: create A under main E F\nmain: create B under main E F\n")?;
-    text.push_str("main: create C under main E F\nmain: activate A B C\n")?;
-    for (me, other) in [("A", "B"), ("B", "A"), ("C", "A")] {
-        write!(text, "{me}: up\n")?;
-        write_body(&mut text, dice, me, other)?;
-        write!(text, "{me}: complete\n")?;
-    }
-    text.push_str("main: complete\n")?;
-    text.push_str("tick 10\n")?;
+    text.push_str("main: create A under main E F\nmain: create B under main\n")?;
+    text.push_str("main: activate A B\nA: up\n")?;
+    write_waits(&mut text, dice)?;
+    text.push_str("A: complete\nB: up\n")?;
+    write_call(&mut text, dice, "B")?;
+    text.push_str("B: complete\n")?;
+    write_call(&mut text, dice, "main")?;
+    text.push_str("main: complete\ntick 10\n")?;
     Ok(text)
 }
 
