@@ -1,4 +1,5 @@
 mod Places
+mod Picking
 mod Acting
 mod Paths
 mod Standstill

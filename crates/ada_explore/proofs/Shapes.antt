@@ -14,6 +14,8 @@ use Rattle.ada_statements.specs.Binding.{with_meaning, with_made, with_opened, b
 use Rattle.ada_script.specs.declared.script.Line.{Line}
 use Rattle.ada_script.specs.Script.{scope_of}
 use Rattle.ada_schedules.specs.Schedules.{State, Acts, Comes}
+use Rattle.ada_explore.specs.declared.turns.Turn.{Turn}
+use Rattle.ada_explore.specs.declared.turns.Picks.{Picks}
 use Rattle.ada_explore.specs.Scripts.{Rest, scripted, bound_so}
 use Rattle.ada_explore.specs.internal.Sameness.{shape}
 
@@ -66,20 +68,20 @@ bound_keeps script names place at made name = by (slice_get script place)
     by (Some line) = bind_keeps names line.statement at made name
     by None = refl
 
-act_keeps : (script : List Line) (place : ℕ) (from to : State Rest) (name : List ℕ) → Acts (scripted script) place from to
+act_keeps : (picks : Picks) (script : List Line) (turn : Turn) (from to : State Rest) (name : List ℕ) → Acts (scripted picks script) turn from to
     → shape_in to.rest.names name ≡ shape_in from.rest.names name
-act_keeps script place from _ name (Acts.accepted request journal asks accepted after) = bound_keeps script from.rest.names place _ _ name
-act_keeps script place from _ name (Acts.refused request cause asks refused) = refl
+act_keeps picks script turn from _ name (Acts.accepted request journal asks accepted after) = bound_keeps script from.rest.names turn.place _ _ name
+act_keeps picks script turn from _ name (Acts.refused request cause asks refused) = refl
 
 -- a schedule changes none
-comes_keeps : (script : List Line) (choices : List ℕ) (to : State Rest) (name : List ℕ) → Comes (scripted script) choices to
+comes_keeps : (picks : Picks) (script : List Line) (turns : List Turn) (to : State Rest) (name : List ℕ) → Comes (scripted picks script) turns to
     → shape_in to.rest.names name ≡ shape_in (scope_of script) name
-comes_keeps script choices to name (Comes.begun) = refl
-comes_keeps script choices to name (Comes.one_more {choices = before} {from} {to = end} choice comes acts) =
-    act_keeps script choice from end name acts ∙ comes_keeps script before from name comes
+comes_keeps picks script turns to name (Comes.begun) = refl
+comes_keeps picks script turns to name (Comes.one_more {choices = before} {from} {to = end} turn comes acts) =
+    act_keeps picks script turn from end name acts ∙ comes_keeps picks script before from name comes
 
 -- so names are declared alike after any two
-pub declared_alike : (script : List Line) (choices others : List ℕ) (old new : State Rest) → Comes (scripted script) choices old
-    → Comes (scripted script) others new → (name : List ℕ) → shape_in old.rest.names name ≡ shape_in new.rest.names name
-declared_alike script choices others old new comes too name =
-    comes_keeps script choices old name comes ∙ sym (comes_keeps script others new name too)
+pub declared_alike : (picks : Picks) (script : List Line) (turns others : List Turn) (old new : State Rest) → Comes (scripted picks script) turns old
+    → Comes (scripted picks script) others new → (name : List ℕ) → shape_in old.rest.names name ≡ shape_in new.rest.names name
+declared_alike picks script turns others old new comes too name =
+    comes_keeps picks script turns old name comes ∙ sym (comes_keeps picks script others new name too)

@@ -5,6 +5,7 @@ pub mod Bindings
 pub mod Requests
 pub mod Chaining
 pub mod Askers
+pub mod Picking
 pub mod Coming
 pub mod Counting
 pub mod Keeping

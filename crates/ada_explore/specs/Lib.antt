@@ -1,3 +1,4 @@
+pub mod Picks
 pub mod Scripts
 pub mod Findings
 pub mod internal

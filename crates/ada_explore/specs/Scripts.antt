@@ -1,6 +1,7 @@
--- A script as a program: each task says its lines in their order, and of the tasks that run any may say its next one.
+-- A script as a program: each task says its lines in their order, and of the tasks that run any may say its next one, with
+-- one of the picks that it may have.
 use Rattle.std.specs.Prelude.{ℕ, ◌+◌, ◌==◌, ◌&&◌, not, Bool, true, false, if◌then◌else◌, Option, Some, None, List, length, filter, find, slice_get}
-use Rattle.std.specs.Option.{option_and_then, option_map_or, is_some}
+use Rattle.std.specs.Option.{option_and_then, option_map, option_map_or, is_some}
 use Rattle.std.specs.List.{list_any, range_with_len}
 use Rattle.ada_events.specs.declared.event.Event.{Event}
 use Rattle.ada_events.specs.declared.request.Request.{Request}
@@ -14,6 +15,9 @@ use Rattle.ada_statements.specs.Binding.{request_of, bind}
 use Rattle.ada_script.specs.declared.script.Line.{Line}
 use Rattle.ada_script.specs.Script.{scope_of}
 use Rattle.ada_schedules.specs.Schedules.{Program, State}
+use Rattle.ada_explore.specs.declared.turns.Turn.{Turn}
+use Rattle.ada_explore.specs.declared.turns.Picks.{Picks}
+use Rattle.ada_explore.specs.Picks.{may_have, with_pick}
 
 -- what is left of a script: the places of the lines that nobody said yet, from 0, in their order, and what names are bound to
 pub record Rest : Type 0 where
@@ -75,16 +79,24 @@ bound_so script names place at made = option_map_or (λ (line : Line). bind name
 abbrev pub asking : List Line → List ℕ
 asking script = filter (λ place. is_some (request_at script (scope_of script) place)) (range_with_len 0 (length script))
 
--- a script as a program: a choice is the place of a line. A line that is refused is said, and changes nothing else
-abbrev pub scripted : List Line → Program
-scripted script = record {
+-- what a turn asks for: its line may come, and may have its pick
+abbrev pub asked_by : Picks → List Line → List Event → Rest → Turn → Option Request
+asked_by picks script journal rest turn =
+    if may_come script journal rest turn.place && may_have picks script turn.place turn.pick
+    then option_map (with_pick turn.pick) (request_at script rest.names turn.place) else None
+
+-- a script as a program: a choice is a turn. A line that is refused is said, and changes nothing else
+abbrev pub scripted : Picks → List Line → Program
+scripted picks script = record {
   Rest = Rest;
-  Choice = ℕ;
+  Choice = Turn;
   start = record { left = asking script; names = scope_of script };
-  asks = λ journal rest place. if may_come script journal rest place then request_at script rest.names place else None;
-  after = λ journal rest place new.
-      record { left = without place rest.left; names = bound_so script rest.names place (length journal + 1) (task_no (task_count journal)) };
-  refused = λ rest place cause. record { left = without place rest.left; names = rest.names };
+  asks = asked_by picks script;
+  after = λ journal rest turn new. record {
+    left = without turn.place rest.left;
+    names = bound_so script rest.names turn.place (length journal + 1) (task_no (task_count journal));
+  };
+  refused = λ rest turn cause. record { left = without turn.place rest.left; names = rest.names };
 }
 
 -- where a schedule of a script has come to

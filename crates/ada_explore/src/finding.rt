@@ -4,24 +4,22 @@ ghost use Rattle.ada_explore.specs.Findings.{GetsStuck, NeverSays, NoneGetsStuck
 
 use crate::covering::{covered_by, never_says};
 use crate::search::Search;
-use crate::{End, Halt, Refused, Watch, follow, is_stuck};
-use ada_script::Script;
-use std::alloc::Global;
+use crate::{End, Halt, Refused, Space, Turn, Watch, follow, is_stuck};
 
 /// A schedule from which on some lines are never said, whatever comes.
 #[derive(Drop)]
 pub struct Stop {
-    /// The places of the lines that it says.
-    pub path: Vec<u16>,
-    /// The places of those that are never said. Their tasks don't end.
+    /// Its turns.
+    pub path: Vec<Turn>,
+    /// The places of the lines that are never said. Their tasks don't end.
     pub lines: Vec<u16>,
 }
 
 /// What was found of all schedules of a script.
 #[derive(Drop)]
 pub struct Finding {
-    /// A schedule that gets stuck, by the places of its lines; none that was met is shorter.
-    pub stuck: Option<Vec<u16>>,
+    /// A schedule that gets stuck; none that was met is shorter.
+    pub stuck: Option<Vec<Turn>>,
     /// If none was met that gets stuck, a schedule after which some tasks are held up for good; none that was met is
     /// shorter.
     pub stopped: Option<Stop>,
@@ -42,18 +40,20 @@ pub struct Finding {
 }
 
 // Whether a schedule gets stuck: it is followed again.
-fn gets_stuck(alloc: Global, script: &Script, path: &[u16]) -> Result<bool, Halt>
-    ensures { IfOk result (λ stuck. stuck ≡ true → GetsStuck script.now path.now) }
+fn gets_stuck(space: Space<'_>, path: &[Turn]) -> Result<bool, Halt>
+    ensures { IfOk result (λ stuck. stuck ≡ true
+        → GetsStuck space.entry.picks space.entry.script.now path.now) }
 {
-    let end = follow(alloc, script, path)?;
+    let end = follow(space, path)?;
     Ok(is_stuck(&end.kernel))
 }
 
 // The schedule that leads to a state, if it gets stuck.
-fn stuck_path(alloc: Global, script: &Script, path: Vec<u16>) -> Result<Option<Vec<u16>>, Halt>
-    ensures { IfOk result (λ found. IfSome found (λ path. GetsStuck script.now path.items)) }
+fn stuck_path(space: Space<'_>, path: Vec<Turn>) -> Result<Option<Vec<Turn>>, Halt>
+    ensures { IfOk result (λ found. IfSome found (λ path.
+        GetsStuck space.entry.picks space.entry.script.now path.items)) }
 {
-    if gets_stuck(alloc, script, &path)? {
+    if gets_stuck(space, &path)? {
         Ok(Some(path))
     } else {
         Ok(None)
@@ -61,27 +61,28 @@ fn stuck_path(alloc: Global, script: &Script, path: Vec<u16>) -> Result<Option<V
 }
 
 // The first schedule that a search met and that gets stuck.
-fn first_stuck(alloc: Global, script: &Script, search: &Search) -> Result<Option<Vec<u16>>, Halt>
-    ensures { IfOk result (λ found. IfSome found (λ path. GetsStuck script.now path.items)) }
+fn first_stuck(space: Space<'_>, search: &Search) -> Result<Option<Vec<Turn>>, Halt>
+    ensures { IfOk result (λ found. IfSome found (λ path.
+        GetsStuck space.entry.picks space.entry.script.now path.items)) }
 {
     match search.first {
-        Some(state) => stuck_path(alloc, script, search.path(state)?),
+        Some(state) => stuck_path(space, search.path(state)?),
         None => Ok(None),
     }
 }
 
 // Whether some lines are never said after a schedule; not if a limit of the kernel is met.
 fn never_says_them<W: Watch>(
-    alloc: Global,
-    script: &Script,
+    space: Space<'_>,
     stop: &Stop,
     most: u32,
     watch: &mut W,
 ) -> Result<bool, Halt>
     ensures { IfOk result (λ never. never ≡ true
-        → NeverSays script.now stop.now.path.items stop.now.lines.items) }
+        → NeverSays space.entry.picks space.entry.script.now stop.now.path.items
+        stop.now.lines.items) }
 {
-    match never_says(alloc, script, &stop.path, &stop.lines, most, watch) {
+    match never_says(space, &stop.path, &stop.lines, most, watch) {
         Err(Halt::Limit(_)) => Ok(false),
         found => found,
     }
@@ -89,16 +90,15 @@ fn never_says_them<W: Watch>(
 
 // The schedule that a search met, if that is so after it.
 fn stop_if_so<W: Watch>(
-    alloc: Global,
-    script: &Script,
+    space: Space<'_>,
     stop: Stop,
     most: u32,
     watch: &mut W,
 ) -> Result<Option<Stop>, Halt>
     ensures { IfOk result (λ found. IfSome found (λ stop.
-        NeverSays script.now stop.path.items stop.lines.items)) }
+        NeverSays space.entry.picks space.entry.script.now stop.path.items stop.lines.items)) }
 {
-    if never_says_them(alloc, script, &stop, most, watch)? {
+    if never_says_them(space, &stop, most, watch)? {
         Ok(Some(stop))
     } else {
         Ok(None)
@@ -107,71 +107,65 @@ fn stop_if_so<W: Watch>(
 
 // The first schedule of a search that saw all, and met none that gets stuck, after which some lines are never said.
 fn first_stop<W: Watch>(
-    alloc: Global,
-    script: &Script,
+    space: Space<'_>,
     search: &Search,
     most: u32,
     watch: &mut W,
 ) -> Result<Option<Stop>, Halt>
     ensures { IfOk result (λ found. IfSome found (λ stop.
-        NeverSays script.now stop.path.items stop.lines.items)) }
+        NeverSays space.entry.picks space.entry.script.now stop.path.items stop.lines.items)) }
 {
     if search.end != End::AllSeen || search.first.is_some() {
         return Ok(None);
     }
-    let Some((state, lines)) = search.first_stop(script)? else {
+    let Some((state, lines)) = search.first_stop(space)? else {
         return Ok(None);
     };
     let stop = Stop {
         path: search.path(state)?,
         lines,
     };
-    stop_if_so(alloc, script, stop, most, watch)
+    stop_if_so(space, stop, most, watch)
 }
 
 // How many states cover all that schedules of a script come to, if none that was met is stuck and none is left.
 fn covered<W: Watch>(
-    alloc: Global,
-    script: &Script,
+    space: Space<'_>,
     search: &Search,
     most: u32,
     watch: &mut W,
 ) -> Result<Option<u32>, Halt>
-    ensures { IfOk result (λ found. IfSome found (λ states. NoneGetsStuck script.now)) }
+    ensures { IfOk result (λ found. IfSome found (λ states.
+        NoneGetsStuck space.entry.picks space.entry.script.now)) }
 {
     if search.end != End::AllSeen || search.first.is_some() {
         return Ok(None);
     }
-    match covered_by(alloc, script, most, watch) {
+    match covered_by(space, most, watch) {
         Err(Halt::Limit(_)) => Ok(None),
         found => found,
     }
 }
 
-/// Searches all schedules of a script; so many states are gone on from, at most. A schedule that is told gets stuck: it
-/// is one of the script's, and nothing can let go on what it comes to. If one is told that is stopped, the lines are
-/// never said after it. If it is told how many states cover all, no schedule gets stuck; that isn't looked for if one
-/// is stopped. If nothing of these is told, nothing is known. An `Err` is want of memory, or a script with more lines
-/// than a script may have.
-pub fn explore<W: Watch>(
-    alloc: Global,
-    script: &Script,
-    most: u32,
-    watch: &mut W,
-) -> Result<Finding, Halt>
-    ensures stuck { IfOk result (λ finding.
-        IfSome finding.stuck (λ path. GetsStuck script.now path.items)) }
+/// Searches all schedules of a script with these picks; so many states are gone on from, at most. A schedule that is
+/// told gets stuck: it is one of these, and nothing can let go on what it comes to. If one is told that is stopped, the
+/// lines are never said after it. If it is told how many states cover all, no schedule gets stuck; that isn't looked
+/// for if one is stopped. If nothing of these is told, nothing is known. An `Err` is want of memory, or a script with
+/// more lines than a script may have.
+pub fn explore<W: Watch>(space: Space<'_>, most: u32, watch: &mut W) -> Result<Finding, Halt>
+    ensures stuck { IfOk result (λ finding. IfSome finding.stuck (λ path.
+        GetsStuck space.entry.picks space.entry.script.now path.items)) }
     ensures stopped { IfOk result (λ finding. IfSome finding.stopped (λ stop.
-        NeverSays script.now stop.path.items stop.lines.items)) }
-    ensures none { IfOk result (λ finding.
-        IfSome finding.covered (λ states. NoneGetsStuck script.now)) }
+        NeverSays space.entry.picks space.entry.script.now stop.path.items stop.lines.items)) }
+    ensures none { IfOk result (λ finding. IfSome finding.covered (λ states.
+        NoneGetsStuck space.entry.picks space.entry.script.now)) }
 {
-    let search = Search::of(alloc, script, most, watch)?;
-    let stuck = first_stuck(alloc, script, &search)?;
-    let stopped = first_stop(alloc, script, &search, most, watch)?;
+    let search = Search::of(space, most, watch)?;
+    let stuck = first_stuck(space, &search)?;
+    let stopped = first_stop(space, &search, most, watch)?;
     let covered = match stopped {
         Some(_) => None,
-        None => covered(alloc, script, &search, most, watch)?,
+        None => covered(space, &search, most, watch)?,
     };
     Ok(Finding {
         stuck,

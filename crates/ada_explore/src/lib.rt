@@ -17,6 +17,7 @@ mod search;
 pub mod standing;
 mod states;
 pub mod stuck;
+pub mod turns;
 mod wanted;
 pub mod watch;
 
@@ -26,4 +27,5 @@ pub use following::follow;
 pub use search::{End, Refused};
 pub use standing::{Halt, Standing};
 pub use stuck::is_stuck;
+pub use turns::{Picks, Space, Turn};
 pub use watch::{Progress, Unwatched, Watch};

@@ -4,10 +4,11 @@
 use crate::ahead::Ahead;
 use crate::key::key_of;
 use crate::standing::asker_at;
-use crate::watch::TURN;
-use crate::{Halt, Progress, Standing, Watch, is_stuck};
+use crate::turns::{may_have, picks_below};
+use crate::watch::LOOK;
+use crate::{Halt, Progress, Space, Standing, Turn, Watch, is_stuck};
 use ada_events::{Refusal, TaskNo};
-use ada_script::{Line, Script};
+use ada_script::Line;
 use ada_waiting::next_due;
 use indexmap::IndexSet;
 use std::alloc::Global;
@@ -17,7 +18,7 @@ use std::collections::VecDeque;
 const MOST_WAITING: usize = 256;
 
 /// So many bytes a state takes beside its key, a step from one to another, and where a state comes to, about.
-const STATE: u64 = 128;
+const STATE: u64 = 136;
 
 const LEAD: u64 = 12;
 
@@ -52,7 +53,7 @@ pub struct Refused {
 #[derive(Drop)]
 pub(crate) struct Search {
     alloc: Global,
-    /// How each state was come to: from which one, and by the line at which place.
+    /// How each state was come to: from which one, and by which turn.
     steps: Vec<Step>,
     /// What tells states apart.
     keys: IndexSet<Vec<u8>>,
@@ -81,7 +82,7 @@ pub(crate) struct Search {
 #[derive(Clone, Copy, Debug, PartialEq, Eq)]
 struct Step {
     from: u32,
-    place: u16,
+    turn: Turn,
 }
 
 // One state leads to another.
@@ -108,12 +109,8 @@ struct Waiting {
 
 impl Search {
     /// Searches all schedules of a script. So many states are gone on from, at most.
-    pub(crate) fn of<W: Watch>(
-        alloc: Global,
-        script: &Script,
-        most: u32,
-        watch: &mut W,
-    ) -> Result<Self, Halt> {
+    pub(crate) fn of<W: Watch>(space: Space<'_>, most: u32, watch: &mut W) -> Result<Self, Halt> {
+        let alloc = space.alloc;
         let mut search = Search {
             alloc,
             steps: Vec::new(alloc),
@@ -129,16 +126,16 @@ impl Search {
             ends: Vec::new(alloc),
             end: End::AllSeen,
         };
-        search.begin(script)?;
+        search.begin(space)?;
         for state in 0..most {
             if state >= search.states() {
                 return Ok(search);
             }
-            if state % TURN == 0 && !watch.goes_on(search.progress(state)) {
+            if state % LOOK == 0 && !watch.goes_on(search.progress(state)) {
                 search.end = End::Ended;
                 return Ok(search);
             }
-            search.go_on(script, state)?;
+            search.go_on(space, state)?;
         }
         if search.states() > most {
             search.end = End::Bound;
@@ -147,13 +144,14 @@ impl Search {
     }
 
     // Meets the beginning, to which no step leads.
-    fn begin(&mut self, script: &Script) -> Result<(), Halt> {
-        let standing = Standing::new(self.alloc, script)?;
-        let step = Step {
-            from: 0,
+    fn begin(&mut self, space: Space<'_>) -> Result<(), Halt> {
+        let standing = Standing::new(space)?;
+        let turn = Turn {
             place: u16::MAX,
+            pick: None,
         };
-        self.meet(script.lines(), standing, step)?;
+        let step = Step { from: 0, turn };
+        self.meet(space.script.lines(), standing, step)?;
         Ok(())
     }
 
@@ -177,8 +175,8 @@ impl Search {
         u32::try_from(self.steps.len()).unwrap_or(u32::MAX)
     }
 
-    /// The places of the lines that lead to a state.
-    pub(crate) fn path(&self, state: u32) -> Result<Vec<u16>, Halt> {
+    /// The turns that lead to a state.
+    pub(crate) fn path(&self, state: u32) -> Result<Vec<Turn>, Halt> {
         let mut path = Vec::new(self.alloc);
         let mut at = state;
         for _ in 0..=u16::MAX {
@@ -188,7 +186,7 @@ impl Search {
             let Some(step) = self.steps.get(at as usize) else {
                 break;
             };
-            path.push(step.place).map_err(|_| Halt::Memory)?;
+            path.push(step.turn).map_err(|_| Halt::Memory)?;
             at = step.from;
         }
         path.reverse();
@@ -196,24 +194,24 @@ impl Search {
     }
 
     // Where a state comes to: that is kept, or its path is played again.
-    fn standing(&mut self, script: &Script, state: u32, path: &[u16]) -> Result<Standing, Halt> {
+    fn standing(&mut self, space: Space<'_>, state: u32, path: &[Turn]) -> Result<Standing, Halt> {
         match self.waiting.front() {
             Some(first) if first.state == state => {}
-            _ => return play(self.alloc, script, path),
+            _ => return play(space, path),
         }
         match self.waiting.pop_front() {
             Some(first) => Ok(first.standing),
-            None => play(self.alloc, script, path),
+            None => play(space, path),
         }
     }
 
     // Takes each step from a state, on a copy of where it comes to, but for the last one.
-    fn go_on(&mut self, script: &Script, state: u32) -> Result<(), Halt> {
+    fn go_on(&mut self, space: Space<'_>, state: u32) -> Result<(), Halt> {
         let path = self.path(state)?;
-        let standing = self.standing(script, state, &path)?;
-        let choices = choices(self.alloc, script.lines(), &standing)?;
+        let standing = self.standing(space, state, &path)?;
+        let choices = choices(space, &standing)?;
         if choices.is_empty() {
-            self.end_at(script.lines(), state, &standing)?;
+            self.end_at(space.script.lines(), state, &standing)?;
         }
         let after = u32::try_from(path.len())
             .unwrap_or(u32::MAX)
@@ -221,19 +219,19 @@ impl Search {
         let Some((last, others)) = choices.split_last() else {
             return Ok(());
         };
-        for place in others {
+        for turn in others {
             let from = standing.copy(self.alloc)?;
             let step = Step {
                 from: state,
-                place: *place,
+                turn: *turn,
             };
-            self.step(script, from, step, after)?;
+            self.step(space.script.lines(), from, step, after)?;
         }
         let step = Step {
             from: state,
-            place: *last,
+            turn: *last,
         };
-        self.step(script, standing, step, after)
+        self.step(space.script.lines(), standing, step, after)
     }
 
     // Notes a state in which no line may come.
@@ -250,18 +248,18 @@ impl Search {
     // Takes a step, after which a schedule has this length.
     fn step(
         &mut self,
-        script: &Script,
+        script: &[Line],
         from: Standing,
         step: Step,
         after: u32,
     ) -> Result<(), Halt> {
         self.taken = self.taken.saturating_add(1);
         let mut standing = from;
-        match standing.perform(script.lines(), step.place) {
-            Ok(None) => self.lead(script.lines(), standing, step),
+        match standing.perform(script, step.turn) {
+            Ok(None) => self.lead(script, standing, step),
             Ok(Some(cause)) => {
-                self.note_refused(step.place, cause, after)?;
-                self.lead(script.lines(), standing, step)
+                self.note_refused(step.turn.place, cause, after)?;
+                self.lead(script, standing, step)
             }
             Err(Halt::Limit(cause)) => {
                 self.end = End::Limit(cause);
@@ -330,15 +328,15 @@ impl Search {
 
     /// The first state in which tasks are held up for good, if one was met, with the places of the lines that they
     /// never say: the same wherever it leads. All states were seen.
-    pub(crate) fn first_stop(&self, script: &Script) -> Result<Option<(u32, Vec<u16>)>, Halt> {
+    pub(crate) fn first_stop(&self, space: Space<'_>) -> Result<Option<(u32, Vec<u16>)>, Halt> {
         if self.ends.iter().all(|end| end.left.is_empty()) {
             return Ok(None);
         }
-        let ahead = self.ahead(script.lines().len())?;
+        let ahead = self.ahead(space.script.lines().len())?;
         for state in 0..self.states() {
             if ahead.is_settled(state) {
-                let lines = left_ahead(self.alloc, script, &ahead, state)?;
-                if self.are_held(script, state, &lines)? {
+                let lines = left_ahead(space, &ahead, state)?;
+                if self.are_held(space, state, &lines)? {
                     return Ok(Some((state, lines)));
                 }
             }
@@ -359,21 +357,21 @@ impl Search {
     }
 
     // Whether the tasks of some lines are held up in a state.
-    fn are_held(&self, script: &Script, state: u32, lines: &[u16]) -> Result<bool, Halt> {
+    fn are_held(&self, space: Space<'_>, state: u32, lines: &[u16]) -> Result<bool, Halt> {
         let path = self.path(state)?;
-        let standing = play(self.alloc, script, &path)?;
+        let standing = play(space, &path)?;
         Ok(
             lines
                 .iter()
-                .all(|line| is_held_at(script.lines(), &standing, *line)),
+                .all(|line| is_held_at(space.script.lines(), &standing, *line)),
         )
     }
 }
 
 // The places of the lines that are left wherever a state leads.
-fn left_ahead(alloc: Global, script: &Script, ahead: &Ahead, state: u32) -> Result<Vec<u16>, Halt> {
-    let mut places = Vec::new(alloc);
-    for line in 0..u16::try_from(script.lines().len()).unwrap_or(u16::MAX) {
+fn left_ahead(space: Space<'_>, ahead: &Ahead, state: u32) -> Result<Vec<u16>, Halt> {
+    let mut places = Vec::new(space.alloc);
+    for line in 0..u16::try_from(space.script.lines().len()).unwrap_or(u16::MAX) {
         if ahead.is_left(state, line) {
             places.push(line).map_err(|_| Halt::Memory)?;
         }
@@ -407,11 +405,11 @@ fn is_held_at(script: &[Line], standing: &Standing, place: u16) -> bool {
     }
 }
 
-// Where a path of the search leads. Each of its lines was found to come next.
-fn play(alloc: Global, script: &Script, path: &[u16]) -> Result<Standing, Halt> {
-    let mut standing = Standing::new(alloc, script)?;
-    for place in path {
-        standing.perform(script.lines(), *place)?;
+// Where a path of the search leads. Each of its turns was found to come next.
+fn play(space: Space<'_>, path: &[Turn]) -> Result<Standing, Halt> {
+    let mut standing = Standing::new(space)?;
+    for turn in path {
+        standing.perform(space.script.lines(), *turn)?;
     }
     Ok(standing)
 }
@@ -421,16 +419,17 @@ fn is_short(standing: &Standing) -> bool {
     !standing.kernel.finished() && !is_stuck(&standing.kernel)
 }
 
-// The lines that may come next: the next one of each task that runs, or else the first tick.
-fn choices(alloc: Global, script: &[Line], standing: &Standing) -> Result<Vec<u16>, Halt> {
-    let mut choices = Vec::new(alloc);
+// What may come next: the next line of each task that runs, with each of its picks, or else the first tick.
+fn choices(space: Space<'_>, standing: &Standing) -> Result<Vec<Turn>, Halt> {
+    let script = space.script.lines();
+    let mut choices = Vec::new(space.alloc);
     let mut spoken = Spoken::new();
     let mut tick = None;
     for place in &standing.left {
         match asker_at(script, &standing.names, *place) {
             Some(task) if spoken.is_first(task) => {
                 if standing.kernel.running(task) == Some(true) {
-                    choices.push(*place).map_err(|_| Halt::Memory)?;
+                    add_turns(space, &mut choices, *place)?;
                 }
             }
             Some(_) => {}
@@ -438,9 +437,26 @@ fn choices(alloc: Global, script: &[Line], standing: &Standing) -> Result<Vec<u1
         }
     }
     if let (true, Some(place)) = (choices.is_empty(), tick) {
-        choices.push(place).map_err(|_| Halt::Memory)?;
+        add_turns(space, &mut choices, place)?;
     }
     Ok(choices)
+}
+
+// Adds the line at a place as it is written, and with each other pick that it may have.
+fn add_turns(space: Space<'_>, choices: &mut Vec<Turn>, place: u16) -> Result<(), Halt> {
+    let written = Turn { place, pick: None };
+    choices.push(written).map_err(|_| Halt::Memory)?;
+    let script = space.script.lines();
+    for pick in 0..picks_below(space.picks, script, place) {
+        let turn = Turn {
+            place,
+            pick: Some(pick),
+        };
+        if may_have(space.picks, script, turn) {
+            choices.push(turn).map_err(|_| Halt::Memory)?;
+        }
+    }
+    Ok(())
 }
 
 /// The tasks whose next line was met, a bit each.

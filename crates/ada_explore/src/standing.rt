@@ -10,11 +10,15 @@ ghost use Rattle.ada_statements.specs.Scope.{Scope};
 ghost use Rattle.ada_script.specs.Script.{scope_of};
 ghost use Rattle.ada_laws.specs.Unlimited.{is_limit};
 ghost use Rattle.ada_schedules.specs.Schedules.{beginning, Acts};
+ghost use Rattle.ada_explore.specs.declared.turns.Picks.{Picks as PicksValue};
+ghost use Rattle.ada_explore.specs.Picks as picking;
 ghost use Rattle.ada_explore.specs.Scripts as scripts;
 
+use crate::turns::{may_have, with_pick};
+use crate::{Picks, Space, Turn};
 use ada_events::{Refusal, Request, TaskNo};
 use ada_kernel::Kernel;
-use ada_script::{Line, Names, Script, Statement, request};
+use ada_script::{Line, Names, Statement, request};
 use std::alloc::Global;
 use thiserror::Error;
 
@@ -32,8 +36,8 @@ pub struct Standing {
 /// Why a schedule doesn't go on by a choice.
 #[derive(Clone, Copy, Debug, PartialEq, Eq, Error)]
 pub enum Halt {
-    /// The line may not come next.
-    #[error("not the next line of a task that runs")]
+    /// The line may not come next, or not with this pick.
+    #[error("not the next line of a task that runs, or not its pick")]
     NoChoice,
     /// A limit of the kernel was reached: of tasks, entries or events.
     #[error("{0}")]
@@ -97,6 +101,17 @@ fn request_at(script: &[Line], names: &Names, place: u16) -> Option<Request>
     }
 }
 
+// What a turn asks for, if it may come.
+fn request_of(script: &[Line], names: &Names, turn: Turn) -> Option<Request>
+    ensures { result ≡ option_map (picking.with_pick turn.pick)
+        (scripts.request_at script.now names.now turn.place) }
+{
+    match request_at(script, names, turn.place) {
+        Some(request) => Some(with_pick(turn.pick, request)),
+        None => None,
+    }
+}
+
 // Whether the line at a place asks for something, and shows no attribute.
 #[tactic(auto, unfolding(ada_statements::specs::Binding::is_show))]
 fn is_asking(script: &[Line], place: u16) -> bool
@@ -127,13 +142,13 @@ fn asks_at(script: &[Line], names: &Names, place: u16, by: Option<TaskNo>) -> bo
 
 impl Standing {
     /// The beginning of all schedules of a script.
-    pub fn new(alloc: Global, script: &Script) -> Result<Self, Halt>
+    pub fn new(space: Space<'_>) -> Result<Self, Halt>
         ensures { IfOk result (λ new. scripts.at new.kernel new.left.items new.names
-            ≡ beginning (scripts.scripted script.now)) }
+            ≡ beginning (scripts.scripted space.entry.picks space.entry.script.now)) }
     {
-        let names = script.names().map_err(|_| Halt::Memory)?;
-        let left = asking(alloc, script.lines(), &names)?;
-        let kernel = Kernel::new(alloc).map_err(|_| Halt::Memory)?;
+        let names = space.script.names().map_err(|_| Halt::Memory)?;
+        let left = asking(space.alloc, space.script.lines(), &names)?;
+        let kernel = Kernel::new(space.alloc).map_err(|_| Halt::Memory)?;
         Ok(Standing {
             kernel,
             left,
@@ -287,23 +302,25 @@ impl Standing {
         }
     }
 
-    // Makes the request of the line at a place. After an `Err` the schedule goes on from nowhere.
-    pub(crate) fn perform(&mut self, script: &[Line], place: u16) -> Result<Option<Refusal>, Halt>
-        ensures { OnOk result (scripts.may_come script.now self.old.kernel
-            (scripts.rest self.old.left.items self.old.names) place ≡ true
-            → Acts (scripts.scripted script.now) place
+    // Makes the request of a turn. After an `Err` the schedule goes on from nowhere.
+    pub(crate) fn perform(&mut self, script: &[Line], turn: Turn) -> Result<Option<Refusal>, Halt>
+        ensures { OnOk result ((picks : PicksValue)
+            → scripts.may_come script.now self.old.kernel
+            (scripts.rest self.old.left.items self.old.names) turn.place ≡ true
+            → picking.may_have picks script.now turn.place turn.pick ≡ true
+            → Acts (scripts.scripted picks script.now) turn
             (scripts.at self.old.kernel self.old.left.items self.old.names)
             (scripts.at self.new.kernel self.new.left.items self.new.names)) }
     {
-        let Some(request) = request_at(script, &self.names, place) else {
+        let Some(request) = request_of(script, &self.names, turn) else {
             return Err(Halt::NoChoice);
         };
         let made = TaskNo(self.kernel.tasks());
         let answer = self.kernel.step(request);
-        take_out(&mut self.left, place);
+        take_out(&mut self.left, turn.place);
         match answer {
             Ok(at) => {
-                self.bind(script, place, at, made);
+                self.bind(script, turn.place, at, made);
                 Ok(None)
             }
             Err(cause) => {
@@ -313,15 +330,20 @@ impl Standing {
         }
     }
 
-    /// Says the line at a place, which is accepted or refused. After an `Err` the schedule goes on from nowhere: the
-    /// line may not come next, a limit was reached, or memory was refused.
-    pub fn say(&mut self, script: &[Line], place: u16) -> Result<Option<Refusal>, Halt>
-        ensures { OnOk result (Acts (scripts.scripted script.now) place
+    /// Says the line of a turn, which is accepted or refused. After an `Err` the schedule goes on from nowhere: the
+    /// line may not come next, or not with this pick, a limit was reached, or memory was refused.
+    pub fn say(
+        &mut self,
+        script: &[Line],
+        picks: Picks,
+        turn: Turn,
+    ) -> Result<Option<Refusal>, Halt>
+        ensures { OnOk result (Acts (scripts.scripted picks script.now) turn
             (scripts.at self.old.kernel self.old.left.items self.old.names)
             (scripts.at self.new.kernel self.new.left.items self.new.names)) }
     {
-        if self.may_come(script, place) {
-            self.perform(script, place)
+        if self.may_come(script, turn.place) && may_have(picks, script, turn) {
+            self.perform(script, turn)
         } else {
             Err(Halt::NoChoice)
         }

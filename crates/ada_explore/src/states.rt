@@ -3,60 +3,61 @@
 ghost use Rattle.std.specs.Prelude.{◌≡◌, ◌∷◌, ◌++◌, [], length, slice_get, IfOk, OnOk};
 ghost use Rattle.std.specs.Option.{option_copied};
 
-use crate::{Halt, Progress};
+use crate::{Halt, Progress, Turn};
 use indexmap::IndexMap;
 use std::alloc::Global;
 use std::marker::Model;
 
-/// A schedule, by the places of its lines.
+/// A schedule, by its turns.
 #[derive(Drop)]
 pub(crate) struct Schedule {
-    places: Vec<u16>,
+    turns: Vec<Turn>,
 }
 
 impl Model for Schedule {
-    ghost use Rattle.std.specs.Prelude.{ℕ, List};
+    ghost use Rattle.std.specs.Prelude.{List};
+    ghost use Rattle.ada_explore.specs.declared.turns.Turn.{Turn as TurnValue};
 
-    ghost Value = { List ℕ };
+    ghost Value = { List TurnValue };
 
-    ghost view = { λ s. s.places.items };
+    ghost view = { λ s. s.turns.items };
 }
 
 impl Schedule {
-    /// Of the lines at these places.
-    pub(crate) fn of(alloc: Global, places: &[u16]) -> Result<Self, Halt>
-        ensures { IfOk result (λ schedule. schedule ≡ places.now) }
+    /// Of these turns.
+    pub(crate) fn of(alloc: Global, turns: &[Turn]) -> Result<Self, Halt>
+        ensures { IfOk result (λ schedule. schedule ≡ turns.now) }
     {
-        let places = Vec::from_slice(alloc, places).map_err(|_| Halt::Memory)?;
-        Ok(Schedule { places })
+        let turns = Vec::from_slice(alloc, turns).map_err(|_| Halt::Memory)?;
+        Ok(Schedule { turns })
     }
 
-    /// The places of the lines, in their order.
-    pub(crate) fn places(&self) -> &[u16]
+    /// The turns, in their order.
+    pub(crate) fn turns(&self) -> &[Turn]
         ensures { result.now ≡ self.now }
     {
-        &self.places
+        &self.turns
     }
 
-    // So many bytes its places take.
+    // So many bytes its turns take.
     fn bytes(&self) -> u64 {
-        (self.places.len() as u64).saturating_mul(2)
+        (self.turns.len() as u64).saturating_mul(TURN)
     }
 
     /// The same schedule.
     pub(crate) fn copy(&self, alloc: Global) -> Result<Self, Halt>
         ensures { IfOk result (λ copy. copy ≡ self.now) }
     {
-        Schedule::of(alloc, &self.places)
+        Schedule::of(alloc, &self.turns)
     }
 
-    /// A schedule that says one line more than these.
-    pub(crate) fn longer(alloc: Global, places: &[u16], place: u16) -> Result<Self, Halt>
-        ensures { IfOk result (λ longer. longer ≡ places.now ++ place ∷ []) }
+    /// A schedule with one turn more than these.
+    pub(crate) fn longer(alloc: Global, turns: &[Turn], turn: Turn) -> Result<Self, Halt>
+        ensures { IfOk result (λ longer. longer ≡ turns.now ++ turn ∷ []) }
     {
-        let mut longer = Vec::from_slice(alloc, places).map_err(|_| Halt::Memory)?;
-        longer.push(place).map_err(|_| Halt::Memory)?;
-        Ok(Schedule { places: longer })
+        let mut longer = Vec::from_slice(alloc, turns).map_err(|_| Halt::Memory)?;
+        longer.push(turn).map_err(|_| Halt::Memory)?;
+        Ok(Schedule { turns: longer })
     }
 }
 
@@ -70,13 +71,16 @@ pub(crate) struct States {
     bytes: u64,
 }
 
-/// So many bytes a state takes beside these, about.
+/// So many bytes a state takes beside these, about, and a turn.
 const STATE: u64 = 160;
 
-impl Model for States {
-    ghost use Rattle.std.specs.Prelude.{ℕ, List};
+const TURN: u64 = 12;
 
-    ghost Value = { List (List ℕ) };
+impl Model for States {
+    ghost use Rattle.std.specs.Prelude.{List};
+    ghost use Rattle.ada_explore.specs.declared.turns.Turn.{Turn as TurnValue};
+
+    ghost Value = { List (List TurnValue) };
 
     ghost view = { λ s. s.schedules.items };
 }

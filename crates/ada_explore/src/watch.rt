@@ -1,7 +1,7 @@
 //! Who watches a search, and may end it.
 
 /// After so many states a search looks whether it goes on.
-pub(crate) const TURN: u32 = 1024;
+pub(crate) const LOOK: u32 = 1024;
 
 /// How far a search has come.
 #[derive(Clone, Copy, Debug, PartialEq, Eq)]

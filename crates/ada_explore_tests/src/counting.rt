@@ -1,7 +1,7 @@
 //! What a search counts, by hand, and how it ends early.
 
 use ada_events::Refusal;
-use ada_explore::{End, Finding, Halt, Progress, Refused, Unwatched, Watch, explore};
+use ada_explore::{End, Finding, Halt, Picks, Progress, Refused, Space, Unwatched, Watch, explore};
 use ada_script::read;
 use std::alloc::Global;
 use std::test::Fail;
@@ -39,7 +39,12 @@ fn found_by<W: Watch>(
     watch: &mut W,
 ) -> Result<Finding, Halt> {
     let script = read(alloc, text).map_err(|_| Halt::Memory)?;
-    explore(alloc, &script, most, watch)
+    let space = Space {
+        alloc,
+        script: &script,
+        picks: Picks::AsWritten,
+    };
+    explore(space, most, watch)
 }
 
 #[test]

@@ -1,6 +1,6 @@
 //! Whether no schedule of a script gets stuck, of scripts whose schedules were gone through by hand.
 
-use ada_explore::{Halt, Unwatched, covered_by};
+use ada_explore::{Halt, Picks, Space, Unwatched, covered_by};
 use ada_script::read;
 use std::alloc::{AllocError, Global};
 use std::test::Fail;
@@ -85,7 +85,12 @@ fn dinner_with(alloc: Global, bob: &[u8]) -> Result<Vec<u8>, AllocError> {
 
 fn covered_in(alloc: Global, text: &[u8], most: u32) -> Result<Option<u32>, Halt> {
     let script = read(alloc, text).map_err(|_| Halt::Memory)?;
-    covered_by(alloc, &script, most, &mut Unwatched)
+    let space = Space {
+        alloc,
+        script: &script,
+        picks: Picks::AsWritten,
+    };
+    covered_by(space, most, &mut Unwatched)
 }
 
 #[test]

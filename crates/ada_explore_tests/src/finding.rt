@@ -1,7 +1,7 @@
 //! What is found of scripts some of whose schedules get stuck.
 
 use crate::plain::ends_of;
-use ada_explore::{End, Halt, Unwatched, explore};
+use ada_explore::{End, Halt, Picks, Space, Unwatched, explore};
 use ada_script::read;
 use std::alloc::Global;
 use std::process::Abort;
@@ -43,7 +43,12 @@ const MOST: u32 = 1_000_000;
 // How long the shortest schedule is that gets stuck, by the search, which sees all, and by the plain one.
 fn found_in(alloc: Global, text: &[u8]) -> Result<(Option<usize>, Option<usize>), Halt> {
     let script = read(alloc, text).map_err(|_| Halt::Memory)?;
-    let found = explore(alloc, &script, u32::MAX, &mut Unwatched)?;
+    let space = Space {
+        alloc,
+        script: &script,
+        picks: Picks::AsWritten,
+    };
+    let found = explore(space, u32::MAX, &mut Unwatched)?;
     if found.end != End::AllSeen {
         return Err(Halt::TooLong);
     }
@@ -51,7 +56,7 @@ fn found_in(alloc: Global, text: &[u8]) -> Result<(Option<usize>, Option<usize>)
         Some(path) => Some(path.len()),
         None => None,
     };
-    Ok((length, ends_of(alloc, &script, MOST)?.stuck))
+    Ok((length, ends_of(space, MOST)?.stuck))
 }
 
 fn assert_found<R: Abort>(

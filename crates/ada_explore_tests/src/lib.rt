@@ -8,6 +8,8 @@ mod covering;
 #[cfg(test)]
 mod finding;
 #[cfg(test)]
+mod picks;
+#[cfg(test)]
 mod plain;
 #[cfg(test)]
 mod random;

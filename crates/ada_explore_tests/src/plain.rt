@@ -1,9 +1,9 @@
 //! A plain search: it goes through each schedule to its end, and takes no two states for the same.
 
 use ada_events::TaskNo;
-use ada_explore::{Halt, Standing, follow, is_stuck};
+use ada_explore::{Halt, Space, Standing, Turn, follow, is_stuck};
 use ada_kernel::Kernel;
-use ada_script::{Line, Script, Statement};
+use ada_script::{Line, Statement};
 use ada_waiting::next_due;
 use std::alloc::Global;
 
@@ -16,28 +16,44 @@ pub struct Ends {
     pub stops: bool,
 }
 
-/// What the schedules of a script come to, which has at most so many, with all that begin them.
-pub fn ends_of(alloc: Global, script: &Script, most: u32) -> Result<Ends, Halt> {
+/// What the schedules of a script come to with the picks that are written. It has at most so many, with all that begin
+/// them.
+pub fn ends_of(space: Space<'_>, most: u32) -> Result<Ends, Halt> {
     let mut ends = Ends {
         stuck: None,
         stops: false,
     };
+    let (alloc, script) = (space.alloc, space.script.lines());
     let mut open = Vec::new(alloc);
     open.push(Vec::new(alloc)).map_err(|_| Halt::Memory)?;
     for _ in 0..most {
         let Some(path) = open.pop() else {
             return Ok(ends);
         };
-        let standing = follow(alloc, script, &path)?;
+        let standing = follow(space, &path)?;
         let met = open.len();
-        go_on(alloc, script.lines(), &standing, &path, &mut open)?;
+        go_on(alloc, script, &standing, &path, &mut open)?;
         if is_stuck(&standing.kernel) {
             ends.stuck = Some(shorter(ends.stuck, path.len()));
-        } else if open.len() == met && stops(script.lines(), &standing) {
+        } else if open.len() == met && stops(script, &standing) {
             ends.stops = true;
         }
     }
     Err(Halt::TooLong)
+}
+
+impl Ends {
+    /// What these schedules come to and others.
+    pub fn with(self, other: Ends) -> Ends {
+        let stuck = match other.stuck {
+            Some(length) => Some(shorter(self.stuck, length)),
+            None => self.stuck,
+        };
+        Ends {
+            stuck,
+            stops: self.stops || other.stops,
+        }
+    }
 }
 
 fn shorter(shortest: Option<usize>, length: usize) -> usize {
@@ -52,8 +68,8 @@ fn go_on(
     alloc: Global,
     script: &[Line],
     standing: &Standing,
-    path: &[u16],
-    open: &mut Vec<Vec<u16>>,
+    path: &[Turn],
+    open: &mut Vec<Vec<Turn>>,
 ) -> Result<(), Halt> {
     for place in &standing.left {
         if standing.may_come(script, *place) {
@@ -64,12 +80,13 @@ fn go_on(
     Ok(())
 }
 
-fn longer(alloc: Global, path: &[u16], place: u16) -> Result<Vec<u16>, Halt> {
+fn longer(alloc: Global, path: &[Turn], place: u16) -> Result<Vec<Turn>, Halt> {
     let mut longer = Vec::new(alloc);
     for other in path {
         longer.push(*other).map_err(|_| Halt::Memory)?;
     }
-    longer.push(place).map_err(|_| Halt::Memory)?;
+    let turn = Turn { place, pick: None };
+    longer.push(turn).map_err(|_| Halt::Memory)?;
     Ok(longer)
 }
 

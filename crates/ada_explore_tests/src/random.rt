@@ -1,8 +1,8 @@
 //! Small random scripts, of which the search finds what a plain one finds.
 
 use crate::plain::{Ends, ends_of};
-use ada_explore::{Halt, Unwatched, explore};
-use ada_script::{Script, read};
+use ada_explore::{Halt, Picks, Space, Unwatched, explore};
+use ada_script::read;
 use ada_test_requests::Dice;
 use std::alloc::{AllocError, Global};
 use std::process::Abort;
@@ -67,9 +67,9 @@ fn script_text(alloc: Global, dice: &mut Dice) -> Result<String, AllocError> {
     Ok(text)
 }
 
-// Whether the search finds of a script what there is.
-fn finds(alloc: Global, script: &Script, ends: Ends) -> Result<bool, Halt> {
-    let found = explore(alloc, script, u32::MAX, &mut Unwatched)?;
+/// Whether the search finds of a script what there is.
+pub fn finds(space: Space<'_>, ends: Ends) -> Result<bool, Halt> {
+    let found = explore(space, u32::MAX, &mut Unwatched)?;
     let stuck = match &found.stuck {
         Some(path) => Some(path.len()),
         None => None,
@@ -88,9 +88,14 @@ fn first_differing(alloc: Global, dice: &mut Dice) -> Result<String, Halt> {
         }
         let text = script_text(alloc, dice).map_err(|_| Halt::Memory)?;
         let script = read(alloc, text.as_bytes()).map_err(|_| Halt::Memory)?;
-        match ends_of(alloc, &script, MOST) {
+        let space = Space {
+            alloc,
+            script: &script,
+            picks: Picks::AsWritten,
+        };
+        match ends_of(space, MOST) {
             Err(Halt::TooLong) => {}
-            Ok(ends) if finds(alloc, &script, ends)? => tried = tried.saturating_add(1),
+            Ok(ends) if finds(space, ends)? => tried = tried.saturating_add(1),
             Ok(_) => return Ok(text),
             Err(halt) => return Err(halt),
         }

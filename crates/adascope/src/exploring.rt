@@ -6,11 +6,10 @@ use crate::output::write_text;
 use crate::schedules::{Told, schedule_in};
 use crate::watching::Watching;
 use ada_explain::Source;
-use ada_explore::{Finding as Explored, Halt, explore};
+use ada_explore::{Finding as Explored, Halt, Picks, Space, Turn, explore};
 use ada_findings::{Finding, ScopeFault};
 use ada_replay::RunFault;
 use ada_replay::replaying::read_script;
-use ada_script::Script;
 use std::fs;
 use std::io::{Eprint, Input, Print};
 use std::rt::Files;
@@ -25,11 +24,20 @@ pub fn tell_schedules<R: Files + Input + Print + Eprint + Clock + AllocGlobal>(
 ) -> Result<Finding, ScopeFault> {
     let text = text_of(rt, order.file)?;
     let script = read_script(rt.alloc(), &text)?;
-    let found = search(rt, &script, order, is_watched)?;
-    let source = Source::of(rt.alloc(), &text).map_err(|_| RunFault::Memory)?;
-    let told = Told {
+    let picks = if order.has_all_picks {
+        Picks::All
+    } else {
+        Picks::AsWritten
+    };
+    let space = Space {
         alloc: rt.alloc(),
         script: &script,
+        picks,
+    };
+    let found = search(rt, space, order, is_watched)?;
+    let source = Source::of(rt.alloc(), &text).map_err(|_| RunFault::Memory)?;
+    let told = Told {
+        space,
         source: &source,
     };
     write_text(rt, &told.report(&found)?)?;
@@ -44,7 +52,7 @@ fn write_schedule<R: Files + AllocGlobal>(
     rt: &R,
     told: Told<'_, '_>,
     order: &Exploration<'_>,
-    path: &[u16],
+    path: &[Turn],
 ) -> Result<(), RunFault> {
     if let Some(name) = order.script {
         let lines = told.lines_of(path)?;
@@ -69,12 +77,12 @@ fn finding_of(found: &Explored) -> Finding {
 
 fn search<R: Eprint + Clock + AllocGlobal>(
     rt: &R,
-    script: &Script,
+    space: Space<'_>,
     order: &Exploration<'_>,
     is_watched: bool,
 ) -> Result<Explored, RunFault> {
     let mut watching = Watching::new(rt, order.bounds, is_watched);
-    let found = explore(rt.alloc(), script, order.bounds.states, &mut watching);
+    let found = explore(space, order.bounds.states, &mut watching);
     watching.end();
     found.map_err(fault_of)
 }

@@ -86,6 +86,8 @@ pub struct Exploration<'a> {
     pub script: Option<&'a str>,
     /// Where its choices are written.
     pub choices: Option<&'a str>,
+    /// Whether selective waits have all picks, and not only those that are written.
+    pub has_all_picks: bool,
 }
 
 /// The repair of a script.
@@ -243,6 +245,10 @@ static STATES: &str = "The most states that are gone on from";
 static SECONDS: &str = "End the search after so many seconds";
 
 static MEMORY: &str = "End the search when its states take about so many megabytes";
+
+static PICKS: &str = "Picks of selective waits: as they are written, or all that could matter";
+
+static PICKINGS: [&str; 2] = ["written", "all"];
 
 static SCHEDULE: &str = "Write the schedule that is found to this file, as a script";
 
@@ -423,10 +429,17 @@ fn output_option<'a>(alloc: Global, name: &'a str, help: &'a str) -> Arg<'a> {
 }
 
 fn explore<'a>(alloc: Global) -> Result<Command<'a>, AllocError> {
+    let picks = Arg::new(alloc, "picks")
+        .long("picks")
+        .action(ArgAction::Set)
+        .value_parser(PICKINGS.as_slice())
+        .default_value("written")
+        .help(PICKS);
     Command::new(alloc, "explore")
         .about(EXPLORE)
         .after_help(EXPLORE_HELP)
         .arg(file(alloc, "FILE"))?
+        .arg(picks)?
         .arg(number_option(alloc, "states", STATES).default_value("1000000"))?
         .arg(number_option(alloc, "seconds", SECONDS))?
         .arg(number_option(alloc, "memory", MEMORY))?
@@ -540,6 +553,7 @@ fn searched<'a>(found: &ArgMatches<'a>) -> Exploration<'a> {
         },
         script: found.get_str("script"),
         choices: found.get_str("choices"),
+        has_all_picks: found.get_str("picks") == Some("all"),
     }
 }
 

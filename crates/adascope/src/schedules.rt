@@ -2,16 +2,15 @@
 
 use ada_explain::standstill::write_standstill;
 use ada_explain::{Scene, Source};
-use ada_explore::{End, Finding as Explored, Halt, Standing, Stop, follow};
+use ada_explore::{End, Finding as Explored, Halt, Picks, Space, Standing, Stop, Turn, follow};
 use ada_replay::RunFault;
-use ada_script::{Script, Statement};
-use std::alloc::{AllocError, Global};
+use ada_script::{Line, Statement};
+use std::alloc::AllocError;
 
 /// A script, with its text.
 #[derive(Clone, Copy)]
 pub struct Told<'a, 't> {
-    pub alloc: Global,
-    pub script: &'a Script,
+    pub space: Space<'a>,
     pub source: &'a Source<'t>,
 }
 
@@ -50,7 +49,7 @@ fn write_short(text: &mut String, found: &Explored) -> Result<(), AllocError> {
 
 /// The schedule that a verdict is about, if it is about one: that which gets stuck, or after which tasks are held up
 /// for good.
-pub fn schedule_in(found: &Explored) -> Option<&[u16]> {
+pub fn schedule_in(found: &Explored) -> Option<&[Turn]> {
     match (&found.stuck, &found.stopped) {
         (Some(path), _) => Some(path),
         (None, Some(stop)) => Some(&stop.path),
@@ -58,17 +57,28 @@ pub fn schedule_in(found: &Explored) -> Option<&[u16]> {
     }
 }
 
+// What stands before and after the pick in the line of a selective wait: the first number after the speaker.
+fn with_pick_apart(line: &str) -> Option<(&str, &str)> {
+    let speaker = line.find(':')?;
+    let start = line.get(speaker..)?.find(|c: char| c.is_ascii_digit())?;
+    let (before, rest) = line.split_at_checked(speaker.checked_add(start)?)?;
+    let end = rest
+        .find(|c: char| !c.is_ascii_digit())
+        .unwrap_or(rest.len());
+    Some((before, rest.get(end..)?))
+}
+
 impl<'t> Told<'_, 't> {
     /// What was found.
     pub fn report(&self, found: &Explored) -> Result<String, RunFault> {
-        let mut text = String::new(self.alloc);
+        let mut text = String::new(self.space.alloc);
         self.write_verdict(&mut text, found)
             .map_err(|_| RunFault::Memory)?;
         write_short(&mut text, found).map_err(|_| RunFault::Memory)?;
         self.write_refused(&mut text, found)
             .map_err(|_| RunFault::Memory)?;
         if let Some(path) = schedule_in(found) {
-            let end = follow(self.alloc, self.script, path).map_err(fault_of)?;
+            let end = follow(self.space, path).map_err(fault_of)?;
             write_standstill(&mut text, Scene::of(&end.kernel, &end.names)).map_err(
                 |_| RunFault::Memory,
             )?;
@@ -93,7 +103,11 @@ impl<'t> Told<'_, 't> {
             return self.write_stop(text, found, stop);
         }
         if let Some(states) = found.covered {
-            text.push_str("none: no schedule gets stuck; ")?;
+            text.push_str("none: no schedule gets stuck")?;
+            if self.space.picks == Picks::All {
+                text.push_str(", whatever is picked")?;
+            }
+            text.push_str("; ")?;
             write_count(text, u64::from(states), "state")?;
             return text.push_str("\n");
         }
@@ -164,7 +178,7 @@ impl<'t> Told<'_, 't> {
 
     // The number of the line at a place, from 1.
     fn number(&self, place: u16) -> u32 {
-        match self.script.lines().get(usize::from(place)) {
+        match self.line(place) {
             Some(line) => line.line,
             None => 0,
         }
@@ -178,9 +192,17 @@ impl<'t> Told<'_, 't> {
         }
     }
 
-    // Which of the alternatives that are open the line takes, where several may be.
-    fn pick(&self, place: u16) -> u32 {
-        match self.script.lines().get(usize::from(place)) {
+    // The line at a place.
+    fn line(&self, place: u16) -> Option<&Line> {
+        self.space.script.lines().get(usize::from(place))
+    }
+
+    // Which of the alternatives that are open the line of a turn takes, where several may be.
+    fn pick(&self, turn: Turn) -> u32 {
+        if let Some(pick) = turn.pick {
+            return pick;
+        }
+        match self.line(turn.place) {
             Some(line) => match &line.statement {
                 Statement::Select { pick, .. } => *pick,
                 _ => 0,
@@ -189,26 +211,37 @@ impl<'t> Told<'_, 't> {
         }
     }
 
+    // The line of a turn, with its pick.
+    fn write_line(&self, text: &mut String, turn: Turn) -> Result<(), AllocError> {
+        let line = self.source.line(self.number(turn.place));
+        match (turn.pick, with_pick_apart(line)) {
+            (Some(pick), Some((before, after))) => write!(text, "{before}{pick}{after}\n"),
+            _ => write!(text, "{line}\n"),
+        }
+    }
+
     /// The lines of a schedule as a script, but for the refused ones, without which it leads to the same.
-    pub fn lines_of(&self, path: &[u16]) -> Result<String, RunFault> {
-        let mut standing = Standing::new(self.alloc, self.script).map_err(fault_of)?;
-        let mut lines = String::new(self.alloc);
-        for place in path {
-            let refused = standing.say(self.script.lines(), *place).map_err(fault_of)?;
+    pub fn lines_of(&self, path: &[Turn]) -> Result<String, RunFault> {
+        let mut standing = Standing::new(self.space).map_err(fault_of)?;
+        let mut lines = String::new(self.space.alloc);
+        for turn in path {
+            let refused = standing
+                .say(self.space.script.lines(), self.space.picks, *turn)
+                .map_err(fault_of)?;
             if refused.is_none() {
-                let line = self.source.line(self.number(*place));
-                write!(lines, "{line}\n").map_err(|_| RunFault::Memory)?;
+                self.write_line(&mut lines, *turn)
+                    .map_err(|_| RunFault::Memory)?;
             }
         }
         Ok(lines)
     }
 
     /// The choices of a schedule, one a line: whose line comes next, and its pick where that isn't 0.
-    pub fn choices_of(&self, path: &[u16]) -> Result<String, AllocError> {
-        let mut choices = String::new(self.alloc);
-        for place in path {
-            choices.push_str(self.speaker(*place))?;
-            match self.pick(*place) {
+    pub fn choices_of(&self, path: &[Turn]) -> Result<String, AllocError> {
+        let mut choices = String::new(self.space.alloc);
+        for turn in path {
+            choices.push_str(self.speaker(turn.place))?;
+            match self.pick(*turn) {
                 0 => choices.push_str("\n")?,
                 pick => write!(choices, " {pick}\n")?,
             }

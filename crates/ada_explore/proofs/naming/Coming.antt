@@ -1,8 +1,9 @@
 -- The same lines may come next, where names stand for the same.
 use Rattle.std.proofs.Common.{◌≡◌, ℕ, ◌≤◌, Bool, true, false, not, ◌&&◌, cond, if◌then◌else◌, Option, Some, None, List, is_some, refl, sym, ap, ◌∙◌, inl, inr}
+use Rattle.std.specs.Option.{option_map}
 use Rattle.std.specs.List.{list_all}
 use Rattle.std.proofs.lemmas.Bool.{and_parts, le-ltb}
-use Rattle.std.proofs.lemmas.Option.{none-some}
+use Rattle.std.proofs.lemmas.Option.{none-some, same_Some}
 use Rattle.ada_events.specs.declared.event.Event.{Event}
 use Rattle.ada_events.specs.declared.request.Request.{Request}
 use Rattle.ada_events.specs.Tasks.{has_task, task_count}
@@ -13,6 +14,9 @@ use Rattle.ada_standing.proofs.alike.Calling.{same_task_alike}
 use Rattle.ada_standing.proofs.alike.Phases.{running_alike}
 use Rattle.ada_statements.specs.Scope.{Scope}
 use Rattle.ada_script.specs.declared.script.Line.{Line}
+use Rattle.ada_explore.specs.declared.turns.Turn.{Turn}
+use Rattle.ada_explore.specs.declared.turns.Picks.{Picks}
+use Rattle.ada_explore.specs.Picks.{may_have, with_pick}
 use Rattle.ada_explore.specs.Scripts.{Rest, rest, scripted, request_at, asker_at, is_same, next_of, is_next, runs, may_say, all_silent, may_come}
 use Rattle.ada_explore.specs.internal.Sameness.{says_alike_at}
 use Rattle.ada_explore.proofs.naming.Passing.{find_alike, any_alike, found_within}
@@ -21,15 +25,27 @@ use Rattle.ada_explore.proofs.naming.Askers.{AskAlike, AreApart, some_alike, sam
 
 -- ---- what comes
 
--- what a place asks for that may come
-pub asked_parts : (script : List Line) (journal : List Event) (r : Rest) (place : ℕ) (request : Request)
-    → (scripted script).asks journal r place ≡ Some request
-    → (may_come script journal r place ≡ true) × (request_at script r.names place ≡ Some request)
-asked_parts script journal r place request asks = by (may_come script journal r place) (request_at script r.names place) asks
+-- what a turn asks for: its line may come, and may have its pick
+pub record Asked (picks : Picks) (script : List Line) (journal : List Event) (r : Rest) (turn : Turn) (request : Request) : Type 0 where
+  pub may : may_come script journal r turn.place ≡ true
+  pub has : may_have picks script turn.place turn.pick ≡ true
+  pub written : Request
+  pub asks : request_at script r.names turn.place ≡ Some written
+  pub is : with_pick turn.pick written ≡ request
+
+pub asked_parts : (picks : Picks) (script : List Line) (journal : List Event) (r : Rest) (turn : Turn) (request : Request)
+    → (scripted picks script).asks journal r turn ≡ Some request → Asked picks script journal r turn request
+asked_parts picks script journal r turn request asks =
+    by (may_come script journal r turn.place) (may_have picks script turn.place turn.pick) (request_at script r.names turn.place) refl refl refl asks
   where
-    by : (b : Bool) (o : Option Request) → cond b o None ≡ Some request → (b ≡ true) × (o ≡ Some request)
-    by true o is = (refl, is)
-    by false o is = absurd (none-some request is)
+    by : (b h : Bool) (o : Option Request) → may_come script journal r turn.place ≡ b → may_have picks script turn.place turn.pick ≡ h
+        → request_at script r.names turn.place ≡ o → cond (b && h) (option_map (with_pick turn.pick) o) None ≡ Some request
+        → Asked picks script journal r turn request
+    by true true (Some written) may has there is =
+        record { may = may; has = has; written = written; asks = there; is = same_Some (with_pick turn.pick written) request is }
+    by true true None may has there is = absurd (none-some request is)
+    by true false o may has there is = absurd (none-some request is)
+    by false h o may has there is = absurd (none-some request is)
 
 coming_next : (script : List Line) (journal : List Event) (r : Rest) (place : ℕ) → may_come script journal r place ≡ true → is_next script r place ≡ true
 coming_next script journal r place comes = by (is_some (asker_at script r.names place)) comes

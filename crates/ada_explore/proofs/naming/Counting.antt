@@ -19,6 +19,8 @@ use Rattle.ada_laws.proofs.forced.Stepping.{forced-step}
 use Rattle.ada_script.specs.declared.script.Line.{Line}
 use Rattle.ada_script.specs.Script.{scope_of}
 use Rattle.ada_schedules.specs.Schedules.{State, Acts, Comes}
+use Rattle.ada_explore.specs.declared.turns.Turn.{Turn}
+use Rattle.ada_explore.specs.declared.turns.Picks.{Picks}
 use Rattle.ada_explore.specs.Scripts.{Rest, scripted, request_at, asker_at, is_same, without, asking}
 use Rattle.ada_explore.proofs.naming.Passing.{fewer_kept, less_left}
 use Rattle.ada_explore.proofs.naming.Coming.{asked_parts, coming_found}
@@ -73,11 +75,11 @@ longer_after old request new after =
 -- ---- lines that are left
 
 -- what asks is taken out
-pub asked_less : (script : List Line) (journal : List Event) (r : Rest) (place : ℕ) (request : Request)
-    → (scripted script).asks journal r place ≡ Some request → length (without place r.left) < length r.left
-asked_less script journal r place request asks =
-    less_left (λ q. is_same (asker_at script r.names q) (asker_at script r.names place)) r.left place
-    (coming_found script journal r place (asked_parts script journal r place request asks).0)
+pub asked_less : (picks : Picks) (script : List Line) (journal : List Event) (r : Rest) (turn : Turn) (request : Request)
+    → (scripted picks script).asks journal r turn ≡ Some request → length (without turn.place r.left) < length r.left
+asked_less picks script journal r turn request asks =
+    less_left (λ q. is_same (asker_at script r.names q) (asker_at script r.names turn.place)) r.left turn.place
+    (coming_found script journal r turn.place (asked_parts picks script journal r turn request asks).may)
 
 -- ---- schedules
 
@@ -88,23 +90,24 @@ begun_few script =
     let all = length-range_with_len 0 (length script) in
     omega (arith, fewer, all)
 
-module _ (script : List Line) where
-  acts_few : (place : ℕ) (from to : State Rest) → task_count from.journal + length from.rest.left ≤ suc (length script)
-      → Acts (scripted script) place from to → task_count to.journal + length to.rest.left ≤ suc (length script)
-  acts_few place from to few (Acts.accepted request journal asks accepted leads) =
+module _ (picks : Picks) (script : List Line) where
+  acts_few : (turn : Turn) (from to : State Rest) → task_count from.journal + length from.rest.left ≤ suc (length script)
+      → Acts (scripted picks script) turn from to → task_count to.journal + length to.rest.left ≤ suc (length script)
+  acts_few turn from to few (Acts.accepted request journal asks accepted leads) =
       let more = few_more from.journal request journal leads in
-      let less = asked_less script from.journal from.rest place request asks in
+      let less = asked_less picks script from.journal from.rest turn request asks in
       omega (arith, few, more, less)
-  acts_few place from to few (Acts.refused request cause asks refused) =
-      let less = asked_less script from.journal from.rest place request asks in
+  acts_few turn from to few (Acts.refused request cause asks refused) =
+      let less = asked_less picks script from.journal from.rest turn request asks in
       omega (arith, few, less)
 
-  comes_few : (places : List ℕ) (state : State Rest) → Comes (scripted script) places state
+  comes_few : (turns : List Turn) (state : State Rest) → Comes (scripted picks script) turns state
       → task_count state.journal + length state.rest.left ≤ suc (length script)
-  comes_few places state (Comes.begun) = begun_few script
-  comes_few places state (Comes.one_more {choices} {from} {to} place comes acts) =
-      acts_few place from to (comes_few choices from comes) acts
+  comes_few turns state (Comes.begun) = begun_few script
+  comes_few turns state (Comes.one_more {choices} {from} {to} turn comes acts) =
+      acts_few turn from to (comes_few choices from comes) acts
 
   -- a short script makes few tasks
-  pub reaches_few : (places : List ℕ) (state : State Rest) → Comes (scripted script) places state → length script ≤ 4096 → task_count state.journal ≤ 4097
-  reaches_few places state comes short = let few = comes_few places state comes in omega (arith, few, short)
+  pub reaches_few : (turns : List Turn) (state : State Rest) → Comes (scripted picks script) turns state → length script ≤ 4096
+      → task_count state.journal ≤ 4097
+  reaches_few turns state comes short = let few = comes_few turns state comes in omega (arith, few, short)

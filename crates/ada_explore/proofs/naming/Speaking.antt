@@ -1,5 +1,5 @@
 -- A script speaks in names.
-use Rattle.std.proofs.Common.{◌≡◌, ℕ, suc, ◌+◌, ◌<◌, ◌≤◌, true, cond, Option, Some, None, List, length, slice_get, refl, sym, ap, subst, ◌∙◌, arith}
+use Rattle.std.proofs.Common.{◌≡◌, ℕ, suc, ◌+◌, ◌<◌, ◌≤◌, true, cond, ◌&&◌, Option, Some, None, List, length, slice_get, refl, sym, ap, subst, ◌∙◌, arith}
 use Rattle.std.specs.Option.{option_map}
 use Rattle.std.proofs.lemmas.Bool.{false≢true, ltb-true}
 use Rattle.std.proofs.lemmas.Option.{same_Some}
@@ -23,13 +23,17 @@ use Rattle.ada_script.specs.declared.script.Line.{Line}
 use Rattle.ada_schedules.specs.Schedules.{State}
 use Rattle.ada_schedules.specs.Closed.{asked_in, went_on, StandsFor, SpeaksInNames}
 use Rattle.ada_schedules.proofs.Stuck.{few_tasks}
+use Rattle.ada_explore.specs.declared.turns.Turn.{Turn}
+use Rattle.ada_explore.specs.declared.turns.Picks.{Picks}
+use Rattle.ada_explore.specs.Picks.{may_have, with_pick}
 use Rattle.ada_explore.specs.Scripts.{Rest, rest, scripted, request_at, may_come}
 use Rattle.ada_explore.specs.internal.Sameness.{says_alike_at, same_task, SameRest}
 use Rattle.ada_explore.proofs.naming.Numbers.{one_named, stands_on}
 use Rattle.ada_explore.proofs.naming.Requests.{request_at_alike}
 use Rattle.ada_explore.proofs.naming.Chaining.{same_along, same_less}
 use Rattle.ada_explore.proofs.naming.Askers.{request_kept}
-use Rattle.ada_explore.proofs.naming.Coming.{asked_parts, coming_within, are_apart, runs_alike, may_come_alike}
+use Rattle.ada_explore.proofs.naming.Picking.{picked_renamed, picked_kept}
+use Rattle.ada_explore.proofs.naming.Coming.{Asked, asked_parts, coming_within, are_apart, runs_alike, may_come_alike}
 use Rattle.ada_explore.proofs.naming.Counting.{few_more, one_made, longer_after, reaches_few}
 use Rattle.ada_explore.proofs.naming.Keeping.{creates, KnowsMore, same_on}
 
@@ -46,17 +50,17 @@ no_name old new names u stands few = by (names.task u) refl
         absurd (omega (arith, below, few))
 
 -- a line that makes a task made one
-makes_more : (names : Scope) (statement : Statement) (request : Request) (old new : List Event) → request_of names statement ≡ Some request
-    → creates statement ≡ true → After old request new → task_count old < task_count new
-makes_more names (Create by task under families) request old new asks makes after =
-    one_made old _ _ _ new (subst (λ r. After old r new) (sym (same_Some _ request asks)) after)
-makes_more names _ request old new asks makes after = absurd (false≢true makes)
+makes_more : (names : Scope) (statement : Statement) (pick : Option ℕ) (written : Request) (old new : List Event)
+    → request_of names statement ≡ Some written → creates statement ≡ true → After old (with_pick pick written) new → task_count old < task_count new
+makes_more names (Create by task under families) pick written old new asks makes after =
+    one_made old _ _ _ new (subst (λ r. After old (with_pick pick r) new) (sym (same_Some _ written asks)) after)
+makes_more names _ pick written old new asks makes after = absurd (false≢true makes)
 
-module _ (old new : List Event) (names : Renaming) (request : Request) (journal other : List Event) (few : task_count old ≤ 4097)
-    (few_too : task_count new ≤ 256) (after : After old request journal) (led : LedAlike old new names journal other) where
+module _ (old new : List Event) (names : Renaming) (pick : Option ℕ) (written : Request) (journal other : List Event) (few : task_count old ≤ 4097)
+    (few_too : task_count new ≤ 256) (after : After old (with_pick pick written) journal) (led : LedAlike old new names journal other) where
   task_after : (t u : TaskNo) → same_task names t u ≡ true → same_task led.after t u ≡ true
   task_after t u same =
-      let more = few_more old request journal after in
+      let more = few_more old (with_pick pick written) journal after in
       let none = no_name journal other led.after 65535 led.stands (omega (arith, few, more)) in
       stands_on names.task led.after.task 65535 t.0 u.0 (λ _. none) led.kept.tasks same
 
@@ -70,17 +74,17 @@ module _ (old new : List Event) (names : Renaming) (request : Request) (journal 
         named = ap led.after.task here ∙ led.tasks 0 (omega (arith, grew)) ∙ ap Some there;
       })
 
-  pub knows_more : (scope : Scope) (statement : Statement) → request_of scope statement ≡ Some request
+  pub knows_more : (scope : Scope) (statement : Statement) → request_of scope statement ≡ Some written
       → KnowsMore names led.after statement (length old + 1) (length new + 1) (task_no (task_count old)) (task_no (task_count new))
   knows_more scope statement asks =
-      let longer = longer_after old request journal after in
+      let longer = longer_after old (with_pick pick written) journal after in
       let here : length old + 1 ≡ suc (0 + length old) = omega arith in
       let there : suc (0 + length new) ≡ length new + 1 = omega arith in
       record {
         tasks = task_after;
         positions = λ p q same.
             stands_on names.position led.after.position 0 p q (λ none. led.old_positions 0 (omega arith) ∙ none) led.kept.positions same;
-        new_task = λ makes. made_after (makes_more scope statement request old journal asks makes after);
+        new_task = λ makes. made_after (makes_more scope statement pick written old journal asks makes after);
         new_block = one_named led.after.position 0 (length old + 1) (length new + 1) (record {
           bound = λ same. omega (arith, same);
           bound_too = λ same. omega (arith, same);
@@ -90,57 +94,69 @@ module _ (old new : List Event) (names : Renaming) (request : Request) (journal 
 
 -- ---- the script
 
-module _ (script : List Line) (short : length script ≤ 4096) (first second : State Rest) (names : Renaming) (place : ℕ) (request : Request)
-    (for : StandsFor (scripted script) (SameRest script) first second names) (asks : asked_in (scripted script) first place ≡ Some request) where
+module _ (picks : Picks) (script : List Line) (short : length script ≤ 4096) (first second : State Rest) (names : Renaming) (turn : Turn)
+    (request : Request) (for : StandsFor (scripted picks script) (SameRest script) first second names)
+    (asks : asked_in (scripted picks script) first turn ≡ Some request) where
+  asked : Asked picks script first.journal first.rest turn request
+  asked = asked_parts picks script first.journal first.rest turn request asks
+
   few : task_count first.journal ≤ 4097
-  few = let (places, comes) = for.reached in reaches_few script places first comes short
+  few = let (turns, comes) = for.reached in reaches_few picks script turns first comes short
 
-  says : says_alike_at script names first.rest.names second.rest.names place ≡ true
+  says : says_alike_at script names first.rest.names second.rest.names turn.place ≡ true
   says =
-      coming_within script first.journal first.rest place (says_alike_at script names first.rest.names second.rest.names) for.same.alike
-      (asked_parts script first.journal first.rest place request asks).0
+      coming_within script first.journal first.rest turn.place (says_alike_at script names first.rest.names second.rest.names) for.same.alike
+      asked.may
 
-  comes_too : may_come script second.journal second.rest place ≡ true
+  comes_too : may_come script second.journal second.rest turn.place ≡ true
   comes_too =
       let here = few in
       let there = few_tasks second.journal for.lawful_too in
       let same : second.rest ≡ rest first.rest.left second.rest.names = ap (λ left. rest left second.rest.names) (sym for.same.left) in
-      ap (λ r. may_come script second.journal r place) same
+      ap (λ r. may_come script second.journal r turn.place) same
       ∙ sym (may_come_alike script names first.rest.names second.rest.names first.rest.left (are_apart first.journal second.journal names for.stands)
       for.same.alike first.journal second.journal
-      (λ o n alike. runs_alike first.journal second.journal names o n for.stands (omega (arith, here)) there alike) place says)
-      ∙ (asked_parts script first.journal first.rest place request asks).0
+      (λ o n alike. runs_alike first.journal second.journal names o n for.stands (omega (arith, here)) there alike) turn.place says)
+      ∙ asked.may
 
-  pub asks_too : asked_in (scripted script) second place ≡ Some (renamed_request names request)
+  -- the line there asks for the same, and so it does with its pick
+  written_too : request_at script second.rest.names turn.place ≡ Some (renamed_request names asked.written)
+  written_too =
+      request_at_alike names first.rest.names second.rest.names for.same.declared script turn.place says
+      ∙ ap (option_map (renamed_request names)) asked.asks
+
+  pub asks_too : asked_in (scripted picks script) second turn ≡ Some (renamed_request names request)
   asks_too =
-      ap (λ b. cond b (request_at script second.rest.names place) None) comes_too
-      ∙ request_at_alike names first.rest.names second.rest.names for.same.declared script place says
-      ∙ ap (option_map (renamed_request names)) (asked_parts script first.journal first.rest place request asks).1
+      let there : Option Request = option_map (with_pick turn.pick) (request_at script second.rest.names turn.place) in
+      ap (λ b. cond (b && may_have picks script turn.place turn.pick) there None) comes_too
+      ∙ ap (λ b. cond b there None) asked.has
+      ∙ ap (option_map (with_pick turn.pick)) written_too
+      ∙ ap Some (picked_renamed names turn.pick asked.written ∙ ap (renamed_request names) asked.is)
 
   pub kept_names : names_kept names first.journal request ≡ true
   kept_names =
       let here = few in
-      request_kept names first.rest.names second.rest.names first.journal (omega (arith, here)) script place request says
-      (asked_parts script first.journal first.rest place request asks).1
+      ap (names_kept names first.journal) (sym asked.is) ∙ picked_kept names first.journal turn.pick asked.written
+      ∙ request_kept names first.rest.names second.rest.names first.journal (omega (arith, here)) script turn.place asked.written says asked.asks
 
   pub same_after : (journal other : List Event) → After first.journal request journal
       → (led : LedAlike first.journal second.journal names journal other)
-      → SameRest script led.after (went_on (scripted script) first place journal).rest (went_on (scripted script) second place other).rest
+      → SameRest script led.after (went_on (scripted picks script) first turn journal).rest (went_on (scripted picks script) second turn other).rest
   same_after journal other after led =
-      let (line, at, is) = option_and_then-some (λ (l : Line). request_of first.rest.names l.statement) (slice_get script place) request
-      (asked_parts script first.journal first.rest place request asks).1 in
-      same_on script names led.after place (length first.journal + 1) (length second.journal + 1) (task_no (task_count first.journal))
+      let (line, at, is) = option_and_then-some (λ (l : Line). request_of first.rest.names l.statement) (slice_get script turn.place) asked.written
+      asked.asks in
+      same_on script names led.after turn.place (length first.journal + 1) (length second.journal + 1) (task_no (task_count first.journal))
       (task_no (task_count second.journal)) line first.rest second.rest at for.same
-      (knows_more first.journal second.journal names request journal other few (tasks_are_few second.journal for.lawful_too) after led
-      first.rest.names line.statement is)
+      (knows_more first.journal second.journal names turn.pick asked.written journal other few (tasks_are_few second.journal for.lawful_too)
+      (subst (λ (r : Request). After first.journal r journal) (sym asked.is) after) led first.rest.names line.statement is)
 
 -- a script of at most 4,096 lines names tasks and blocks by their names alone
-pub scripts_speak : (script : List Line) → length script ≤ 4096 → SpeaksInNames (scripted script) (SameRest script)
-scripts_speak script short = record {
-  asks = λ first second names place request for asks. asks_too script short first second names place request for asks;
-  kept = λ first second names place request for asks. kept_names script short first second names place request for asks;
-  after = λ first second names place request journal other for asks after copied led.
-      same_after script short first second names place request for asks journal other after led;
-  refused = λ names one other place cause same. same_less script names one other place same;
+pub scripts_speak : (picks : Picks) (script : List Line) → length script ≤ 4096 → SpeaksInNames (scripted picks script) (SameRest script)
+scripts_speak picks script short = record {
+  asks = λ first second names turn request for asks. asks_too picks script short first second names turn request for asks;
+  kept = λ first second names turn request for asks. kept_names picks script short first second names turn request for asks;
+  after = λ first second names turn request journal other for asks after copied led.
+      same_after picks script short first second names turn request for asks journal other after led;
+  refused = λ names one other turn cause same. same_less script names one other turn.place same;
   chained = λ names more one other third same also. same_along names more script one other third same also;
 }

@@ -1,0 +1,120 @@
+//! What comes next in a schedule of a script, and which picks its selective waits may have.
+ghost use Rattle.std.specs.Prelude.{◌≡◌, ◌<◌, ◌≤◌, ℕ, Some, true};
+ghost use Rattle.ada_events.specs.declared.limits.TheConstants.{MOST_DELAYS};
+ghost use Rattle.ada_explore.specs.Picks as picking;
+
+use ada_events::{Request, Tail};
+use ada_script::{Line, Script, Statement};
+use std::alloc::Global;
+
+/// One step of a schedule: a line comes, as it is written or with another pick.
+#[derive(Clone, Copy, Debug, PartialEq, Eq)]
+pub struct Turn {
+    /// The place of the line in the script, from 0.
+    pub place: u16,
+    /// The pick of its selective wait, if that isn't the one that is written.
+    pub pick: Option<u32>,
+}
+
+/// Which picks selective waits have.
+#[derive(Clone, Copy, Debug, PartialEq, Eq)]
+pub enum Picks {
+    /// Those that are written.
+    AsWritten,
+    /// Those that are written, and all others that could matter.
+    All,
+}
+
+/// A script whose schedules are looked at.
+#[derive(Clone, Copy)]
+pub struct Space<'a> {
+    pub alloc: Global,
+    pub script: &'a Script,
+    pub picks: Picks,
+}
+
+// How many delay alternatives a selective wait has.
+fn delays_in(tail: &Tail) -> usize
+    ensures value { result ≡ picking.delays_in tail.now }
+    ensures fits { result ≤ MOST_DELAYS }
+{
+    match tail {
+        Tail::Delays(pauses) => pauses.len(),
+        _ => 0,
+    }
+}
+
+// A number above each pick that could matter in a statement.
+fn bound_of(statement: &Statement) -> u32
+    ensures { (pick : ℕ) → picking.could_matter statement.now pick ≡ true → pick < result }
+{
+    match statement {
+        Statement::Select { choices, tail, .. } => {
+            (choices.as_slice().len() + delays_in(tail.get())) as u32
+        }
+        _ => 0,
+    }
+}
+
+// Whether another pick than the one that is written could matter.
+fn could_matter(statement: &Statement, pick: u32) -> bool
+    ensures { result ≡ picking.could_matter statement.now pick }
+{
+    match statement {
+        Statement::Select {
+            pick: written,
+            choices,
+            tail,
+            ..
+        } => {
+            let number = pick as usize;
+            pick != *written
+                && (number < choices.as_slice().len() || number < delays_in(tail.get()))
+        }
+        _ => false,
+    }
+}
+
+/// A number above each pick that the line at a place may have beside the one that is written.
+pub(crate) fn picks_below(picks: Picks, script: &[Line], place: u16) -> u32
+    ensures { (pick : ℕ) → picking.may_have picks script.now place (Some pick) ≡ true
+        → pick < result }
+{
+    match (picks, script.get(usize::from(place))) {
+        (Picks::All, Some(line)) => bound_of(&line.statement),
+        _ => 0,
+    }
+}
+
+/// Whether the line at a place may have this pick.
+pub(crate) fn may_have(picks: Picks, script: &[Line], turn: Turn) -> bool
+    ensures { result ≡ picking.may_have picks script.now turn.place turn.pick }
+{
+    let Some(pick) = turn.pick else {
+        return true;
+    };
+    match (picks, script.get(usize::from(turn.place))) {
+        (Picks::All, Some(line)) => could_matter(&line.statement, pick),
+        _ => false,
+    }
+}
+
+/// A request with another pick, if it is a wait.
+pub(crate) fn with_pick(pick: Option<u32>, request: Request) -> Request
+    ensures { result ≡ picking.with_pick pick request }
+{
+    match request {
+        Request::Wait {
+            by,
+            choices,
+            tail,
+            pick: written,
+        } => Request::Wait {
+            by,
+            choices,
+            tail,
+            pick: pick.unwrap_or(written),
+        },
+        request => request,
+    }
+}
