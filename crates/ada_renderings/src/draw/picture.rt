@@ -1,4 +1,5 @@
 //! A play as SVG: a column for each task, time from above, and what each task does as a bar.
+ghost use Rattle.std.specs.Prelude.{◌<◌, ◌≤◌};
 
 use crate::draw::marks::{write_ends, write_event};
 use crate::draw::markup::write_escaped;
@@ -168,7 +169,7 @@ impl Page<'_> {
 
     fn write_head(&self, out: &mut String) -> Result<(), AllocError> {
         let width = self.width();
-        let height = self.height().saturating_add(150);
+        let height = self.height().saturating_add(self.legend_height());
         write!(
             out,
             "<svg xmlns=\"{NAMESPACE}\" viewBox=\"0 0 {width} {height}\" role=\"img\">\n"
@@ -252,10 +253,27 @@ impl Page<'_> {
         spans.any(|span| span.stage == stage && self.bar_of(*span).is_some())
     }
 
+    // How many states stand beside each other in the legend: one to three.
+    fn legend_columns(&self) -> usize
+        ensures some { 0 < result }
+        ensures few { result ≤ 3 }
+    {
+        let room = self.width().saturating_sub(LEFT) / LEGEND_COLUMN;
+        if room == 0 { 1 } else { room.min(3) }
+    }
+
+    fn legend_height(&self) -> usize {
+        let states = STAGES
+            .iter()
+            .filter(|(stage, _, _)| self.occurs(*stage))
+            .count();
+        let columns = self.legend_columns();
+        let rows = states.saturating_add(columns - 1) / columns;
+        rows.saturating_mul(LEGEND_ROW).saturating_add(30)
+    }
+
     fn write_legend(&self, out: &mut String) -> Result<(), AllocError> {
-        let columns = (self.width().saturating_sub(LEFT) / LEGEND_COLUMN)
-            .max(1)
-            .min(3);
+        let columns = self.legend_columns();
         let mut place = 0usize;
         for (stage, class, name) in &STAGES {
             if self.occurs(*stage) {
