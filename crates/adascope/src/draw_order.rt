@@ -32,8 +32,8 @@ static SCHEMES: [&str; 3] = ["auto", "light", "dark"];
 
 /// The command `draw`.
 pub(crate) fn draw<'a>(alloc: Global) -> Result<Command<'a>, AllocError> {
-    let format = choice(alloc, "format", FORMATS.as_slice(), FORMAT).default_value("svg");
-    let scheme = choice(alloc, "scheme", SCHEMES.as_slice(), SCHEME).default_value("auto");
+    let format = choice_option(alloc, "format", FORMATS.as_slice(), FORMAT).default_value("svg");
+    let scheme = choice_option(alloc, "scheme", SCHEMES.as_slice(), SCHEME).default_value("auto");
     let no_text = Arg::new(alloc, "no-text")
         .long("no-text")
         .action(ArgAction::SetTrue)
@@ -43,14 +43,14 @@ pub(crate) fn draw<'a>(alloc: Global) -> Result<Command<'a>, AllocError> {
         .after_help(DRAW_HELP)
         .arg(file(alloc, "FILE"))?
         .arg(format)?
-        .arg(position(alloc, "from", FROM))?
-        .arg(position(alloc, "to", TO))?
+        .arg(position_option(alloc, "from", FROM))?
+        .arg(position_option(alloc, "to", TO))?
         .arg(no_text)?
         .arg(scheme)
 }
 
 // An option that has one of some words.
-fn choice<'a>(
+fn choice_option<'a>(
     alloc: Global,
     name: &'a str,
     words: &'static [&'static str],
@@ -64,7 +64,7 @@ fn choice<'a>(
 }
 
 // An option that has the position of an event.
-fn position<'a>(alloc: Global, name: &'a str, help: &'a str) -> Arg<'a> {
+fn position_option<'a>(alloc: Global, name: &'a str, help: &'a str) -> Arg<'a> {
     Arg::new(alloc, name)
         .long(name)
         .value_name("N")

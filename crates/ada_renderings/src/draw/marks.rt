@@ -119,16 +119,15 @@ fn write_end(out: &mut String, page: &Page<'_>, span: Span) -> Result<(), AllocE
             let (high, low) = (y.saturating_sub(6), y.saturating_add(6));
             write!(
                 out,
-                "<path class=\"hit\" d=\"M {left} {high} L {right} {low} M {left} {low} L {right} {high}\">"
+                "<path class=\"hit\" d=\"M {left} {high} L {right} {low} M {left} {low}"
             )?;
+            write!(out, " L {right} {high}\">")?;
             write!(out, "<title>{name}: hit by the abort</title></path>\n")
         }
         (Stage::Terminated, Some(Event::Quit { .. })) => {
             let (left, right) = (x.saturating_sub(9), x.saturating_add(9));
-            write!(
-                out,
-                "<path class=\"quit\" d=\"M {left} {y} H {right}\"><title>{name}: ended by the quit</title></path>\n"
-            )
+            write!(out, "<path class=\"quit\" d=\"M {left} {y} H {right}\">")?;
+            write!(out, "<title>{name}: ended by the quit</title></path>\n")
         }
         _ => Ok(()),
     }
