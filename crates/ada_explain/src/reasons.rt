@@ -186,8 +186,8 @@ fn write_choice(
     write!(text, "{before}{}", scene.entry(task, choice.entry))
 }
 
-// The entries of the open accept alternatives of a wait.
-fn write_choices(
+/// Appends the entries of the open accept alternatives of a wait: ` for a call of S.E or S.F`; nothing if none is open.
+pub fn write_choices(
     text: &mut String,
     scene: Scene<'_>,
     task: TaskNo,
@@ -203,7 +203,8 @@ fn write_choices(
     Ok(())
 }
 
-fn write_tail(text: &mut String, tail: &EventTail) -> Result<(), AllocError> {
+/// Appends how long a wait lasts, or that it may end by termination; nothing of another one.
+pub fn write_tail(text: &mut String, tail: &EventTail) -> Result<(), AllocError> {
     match tail {
         EventTail::Delays(dues) => match ada_events::waits::least_due(dues.get().as_slice()) {
             Some(due) => write!(text, ", at most until moment {due}"),

@@ -2,10 +2,48 @@
 
 use std::alloc::AllocError;
 
+// Whether a byte stands within quotation marks as it is.
+fn is_plain_byte(byte: u8) -> bool {
+    32 <= byte && byte <= 126 && byte != b'"' && byte != b'\\' && byte != b'<'
+}
+
+// Whether a text stands within quotation marks as it is. Each byte is looked at, with no way out before the last, so
+// that many are looked at at once.
+fn is_plain(text: &str) -> bool {
+    let mut are_plain = true;
+    for byte in text.as_bytes() {
+        are_plain &= is_plain_byte(*byte);
+    }
+    are_plain
+}
+
+// Whether a byte stands in HTML as it is.
+fn is_shown_byte(byte: u8) -> bool {
+    byte != b'&' && byte != b'<' && byte != b'>' && byte != b'"'
+}
+
+// Whether a text stands in HTML as it is.
+fn is_shown(text: &str) -> bool {
+    let mut are_shown = true;
+    for byte in text.as_bytes() {
+        are_shown &= is_shown_byte(*byte);
+    }
+    are_shown
+}
+
 /// Appends a text in quotation marks. What isn't printable ASCII stands by its numbers in UTF-16, as `\u00e9`, and so
 /// does `<`, with which an element of HTML could end.
 pub fn put_quoted(out: &mut String, text: &str) -> Result<(), AllocError> {
     out.push('"')?;
+    if is_plain(text) {
+        out.push_str(text)?;
+    } else {
+        put_units(out, text)?;
+    }
+    out.push('"')
+}
+
+fn put_units(out: &mut String, text: &str) -> Result<(), AllocError> {
     for unit in text.encode_utf16() {
         match unit {
             0x22 => out.push_str("\\\"")?,
@@ -15,17 +53,33 @@ pub fn put_quoted(out: &mut String, text: &str) -> Result<(), AllocError> {
             _ => write!(out, "\\u{unit:04x}")?,
         }
     }
-    out.push('"')
+    Ok(())
 }
 
 /// Appends a member of an object, after those before it.
 pub fn put_member(out: &mut String, key: &str, text: &str) -> Result<(), AllocError> {
-    write!(out, ",\"{key}\":")?;
+    out.push_str(",\"")?;
+    out.push_str(key)?;
+    out.push_str("\":")?;
     put_quoted(out, text)
 }
 
 /// Appends a text as HTML shows it.
 pub fn put_html(out: &mut String, text: &str) -> Result<(), AllocError> {
+    for (i, line) in text.split('\n').enumerate() {
+        if i > 0 {
+            out.push('\n')?;
+        }
+        if is_shown(line) {
+            out.push_str(line)?;
+        } else {
+            put_characters(out, line)?;
+        }
+    }
+    Ok(())
+}
+
+fn put_characters(out: &mut String, text: &str) -> Result<(), AllocError> {
     for character in text.chars() {
         match character {
             '&' => out.push_str("&amp;")?,

@@ -124,7 +124,7 @@ fn tell<R: Files + Input + Print + AllocGlobal>(
             tell_faults(rt, form, &text, most, is_colored)
         }
         What::FaultRecords(most) => tell_faults(rt, Form::Json, &text, most, false),
-        What::Picture | What::Sequence | What::Graph | What::Events => draw(rt, &text, what),
+        What::Picture(_) | What::Sequence(_) | What::Graph | What::Events => draw(rt, &text, what),
     }
 }
 
@@ -161,10 +161,10 @@ fn drawn(alloc: Global, text: &[u8], what: What) -> Result<String, RunFault> {
     let script = read_script(alloc, text)?;
     let account = account_of(alloc, script)?;
     let drawn = match what {
-        What::Sequence => write_sequence(alloc, &account),
+        What::Picture(view) => write_picture(alloc, text, &account, view),
+        What::Sequence(part) => write_sequence(alloc, &account, part),
         What::Graph => write_graph(alloc, &account),
-        What::Events => write_events(alloc, text, &account),
-        _ => write_picture(alloc, text, &account),
+        _ => write_events(alloc, text, &account),
     };
     drawn.map_err(|_| RunFault::Memory)
 }

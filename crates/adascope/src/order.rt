@@ -1,7 +1,9 @@
 //! The command line: what its words order.
 
+use crate::draw_order::{draw, drawn_in};
 use crate::page_order::{Paging, page, paged};
 use ada_expectations::Form;
+use ada_renderings::draw::{Part, View};
 use clap::{Arg, ArgAction, ArgMatches, Command, Error, value_parser};
 use std::alloc::{AllocError, Global};
 use std::convert::AsStr;
@@ -16,9 +18,9 @@ pub enum What {
     /// The same as JSON.
     FaultRecords(usize),
     /// A picture of its play.
-    Picture,
-    /// Its calls as a sequence diagram.
-    Sequence,
+    Picture(View),
+    /// Its calls as a sequence diagram, of a part of the play.
+    Sequence(Part),
     /// Who waits for whom at the end, as a graph.
     Graph,
     /// Its events, refusals and shown attributes as JSON.
@@ -167,15 +169,6 @@ static LINT_HELP: &str = "Examples:
   adascope lint --fix design.tasks > fixed.tasks
 ";
 
-static DRAW: &str = "Draw the play: tasks and events as SVG, or another format";
-
-static DRAW_HELP: &str = "Examples:
-
-  adascope draw design.tasks > design.svg
-  adascope draw --format mermaid design.tasks
-  adascope draw --format dot design.tasks | dot -Tsvg > waits.svg
-";
-
 static EVENTS: &str = "Write each event, refusal and shown attribute as a line of JSON";
 
 static EVENTS_HELP: &str = "Examples:
@@ -254,9 +247,6 @@ static SCHEDULE: &str = "Write the schedule that is found to this file, as a scr
 
 static CHOICES: &str = "Write its choices to this file: whose line comes next, and its pick";
 
-static FORMAT: &str =
-    "svg: tasks and events; mermaid: the calls as a sequence; dot: who waits for whom at the end";
-
 static FILE: &str = "The file that has the script, or - for the standard input, as without it";
 
 static STRICT: &str =
@@ -268,8 +258,6 @@ static COLOR: &str =
     "Whether the text has colours: on a terminal alone, if NO_COLOR isn't set, or as is said";
 
 static COLORS: [&str; 3] = ["auto", "always", "never"];
-
-static FORMATS: [&str; 3] = ["svg", "mermaid", "dot"];
 
 static HELP: &str = "Exit status:
 
@@ -292,7 +280,7 @@ pub fn order_of<'a, S: AsStr>(alloc: Global, words: &'a [S]) -> Result<Order<'a>
     Ok(ordered(alloc, &matches)?)
 }
 
-fn file<'a>(alloc: Global, name: &'a str) -> Arg<'a> {
+pub(crate) fn file<'a>(alloc: Global, name: &'a str) -> Arg<'a> {
     Arg::new(alloc, name).action(ArgAction::Set).help(FILE)
 }
 
@@ -320,20 +308,6 @@ fn explain<'a>(alloc: Global) -> Result<Command<'a>, AllocError> {
         .arg(file(alloc, "FILE"))?
         .arg(strict_option(alloc, STRICT))?
         .arg(color_option(alloc))
-}
-
-fn draw<'a>(alloc: Global) -> Result<Command<'a>, AllocError> {
-    let format = Arg::new(alloc, "format")
-        .long("format")
-        .action(ArgAction::Set)
-        .value_parser(FORMATS.as_slice())
-        .default_value("svg")
-        .help(FORMAT);
-    Command::new(alloc, "draw")
-        .about(DRAW)
-        .after_help(DRAW_HELP)
-        .arg(file(alloc, "FILE"))?
-        .arg(format)
 }
 
 fn compare<'a>(alloc: Global) -> Result<Command<'a>, AllocError> {
@@ -478,7 +452,7 @@ fn ordered<'a>(alloc: Global, matches: &ArgMatches<'a>) -> Result<Order<'a>, All
             job: linted(found),
             color: color_in(found),
         },
-        Some(("draw", found)) => plain(tell(picture_in(found), found, false)),
+        Some(("draw", found)) => plain(tell(drawn_in(found), found, false)),
         Some(("events", found)) => plain(tell(What::Events, found, false)),
         Some(("compare", found)) => Order {
             job: Job::Compare {
@@ -577,15 +551,6 @@ fn color_in(matches: &ArgMatches<'_>) -> Color {
         Some("always") => Color::Always,
         Some("never") => Color::Never,
         _ => Color::Auto,
-    }
-}
-
-// The format of a picture.
-fn picture_in(matches: &ArgMatches<'_>) -> What {
-    match matches.get_str("format") {
-        Some("mermaid") => What::Sequence,
-        Some("dot") => What::Graph,
-        _ => What::Picture,
     }
 }
 

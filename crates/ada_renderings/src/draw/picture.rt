@@ -1,11 +1,13 @@
 //! A play as SVG: a column for each task, time from above, and what each task does as a bar.
+ghost use Rattle.std.specs.Prelude.{◌<◌, ◌≤◌};
 
+use crate::draw::marks::{write_ends, write_event};
 use crate::draw::markup::write_escaped;
-use ada_events::journal::event_in;
-use ada_events::limits::MOST_MEMBERS;
-use ada_events::{Event, Master, TaskNo};
+use crate::draw::style::{STAGES, names_of, write_style};
+use crate::draw::view::View;
+use ada_events::TaskNo;
 use ada_explain::Scene;
-use ada_explain::lives::{Lives, Span, Stage, holder};
+use ada_explain::lives::{Lives, Span, Stage};
 use ada_explain::rows::{Row, Rows, Shows};
 use ada_replay::Account;
 use std::alloc::{AllocError, Global};
@@ -13,86 +15,23 @@ use std::alloc::{AllocError, Global};
 /// The height of a row, the width of a column, and what stands left of the columns and above the rows.
 const ROW: usize = 20;
 
-const COLUMN: usize = 90;
+pub(crate) const COLUMN: usize = 90;
 
-const LEFT: usize = 48;
+pub(crate) const LEFT: usize = 48;
 
 const TOP: usize = 56;
+
+/// The width of a column of the legend, and the height of a row of it.
+const LEGEND_COLUMN: usize = 230;
+
+const LEGEND_ROW: usize = 24;
 
 static NAMESPACE: &str = "http://www.w3.org/2000/svg";
 
 static TITLE: &str = "A play of a task script: a column for each task, time from above";
 
-/// The colours, on a light and on a dark page.
-static STYLE: &str = "<style>
-svg { background: #ffffff; color: #1f2328; }
-text { font: 12px ui-monospace, monospace; fill: currentColor; }
-.head { font-weight: bold; text-anchor: middle; }
-.position { text-anchor: end; }
-.forced, .line { opacity: 0.75; }
-.refused { fill: #b42318; }
-.grid { stroke: currentColor; stroke-opacity: 0.15; }
-.tick { stroke: currentColor; stroke-opacity: 0.6; stroke-dasharray: 6 4; }
-.mark { fill: currentColor; }
-.step { fill: none; stroke: currentColor; stroke-width: 1.5; }
-.call { stroke: currentColor; stroke-width: 1.5; stroke-dasharray: 3 3; fill: none; }
-.met { stroke: currentColor; stroke-width: 2; fill: none; }
-.block { stroke: currentColor; stroke-width: 1.5; fill: none; }
-.not-started { fill: #d0d7de; }
-.activating { fill: #a5d6ff; }
-.running { fill: #4ac26b; }
-.starting { fill: #b6e3ff; }
-.calling { fill: #ffb77c; }
-.in-rendezvous { fill: #d8a8ff; }
-.waiting { fill: #fae17d; }
-.delayed { fill: #fff1b8; }
-.leaving { fill: #f0d9b5; }
-.abnormal { fill: #ff8182; }
-.completed { fill: #8c959f; }
-.terminated { fill: none; }
-@media (prefers-color-scheme: dark) {
-svg { background: #0d1117; color: #e6edf3; }
-.refused { fill: #ff9492; }
-.not-started { fill: #484f58; }
-.activating { fill: #1f6feb; }
-.running { fill: #238636; }
-.starting { fill: #0c4a8a; }
-.calling { fill: #bd561d; }
-.in-rendezvous { fill: #8957e5; }
-.waiting { fill: #9e7700; }
-.delayed { fill: #6b5b14; }
-.leaving { fill: #76532a; }
-.abnormal { fill: #da3633; }
-.completed { fill: #6e7681; }
-}
-</style>
-";
-
-/// Each stage with the name of its class, and what it is called.
-const STAGES: [(Stage, &str, &str); 11] = [
-    (Stage::NotStarted, "not-started", "not started"),
-    (Stage::Activating, "activating", "activating"),
-    (Stage::Running, "running", "running"),
-    (Stage::Starting, "starting", "waits for an activation"),
-    (Stage::Calling, "calling", "waits in a call"),
-    (Stage::InRendezvous, "in-rendezvous", "is served"),
-    (Stage::Waiting, "waiting", "waits for a call"),
-    (Stage::Delayed, "delayed", "delayed"),
-    (Stage::Leaving, "leaving", "waits at the end of a block"),
-    (Stage::Abnormal, "abnormal", "aborted"),
-    (Stage::Completed, "completed", "completed"),
-];
-
-// The class of a stage, and what it is called.
-fn names_of(stage: Stage) -> (&'static str, &'static str) {
-    match STAGES.iter().find(|(other, _, _)| *other == stage) {
-        Some((_, class, name)) => (*class, *name),
-        None => ("terminated", "terminated"),
-    }
-}
-
 // The middle of a task's column.
-fn x_of(task: TaskNo) -> usize {
+pub(crate) fn x_of(task: TaskNo) -> usize {
     LEFT + COLUMN / 2 + COLUMN * usize::from(task.0)
 }
 
@@ -101,17 +40,29 @@ fn text_width(characters: usize) -> usize {
     characters.saturating_mul(22) / 3 + 16
 }
 
-// The middle of a row, from 1; the beginning at 0.
+// The middle of a row of those that are drawn, from 1; the beginning at 0.
 fn y_of(row: usize) -> usize {
     row.saturating_mul(ROW).saturating_add(TOP)
 }
 
-/// What is drawn: the scene, its rows, and what its tasks do.
+/// What is drawn: the scene, its rows, what its tasks do, and which of the rows.
 #[derive(Drop)]
-struct Page<'a> {
-    scene: Scene<'a>,
+pub(crate) struct Page<'a> {
+    pub(crate) scene: Scene<'a>,
     rows: Rows<'a>,
-    lives: Lives,
+    pub(crate) lives: Lives,
+    pub(crate) view: View,
+    /// So many rows come before those that are drawn.
+    before: usize,
+    /// So many are drawn.
+    count: usize,
+}
+
+/// Where a bar begins and ends.
+#[derive(Clone, Copy)]
+struct Bar {
+    top: usize,
+    bottom: usize,
 }
 
 /// Draws a play, of whose script this is the source.
@@ -119,18 +70,15 @@ pub fn write_picture<'a>(
     alloc: Global,
     source: &'a [u8],
     account: &'a Account,
+    view: View,
 ) -> Result<String, AllocError> {
-    let scene = Scene::at_end(account);
-    let page = Page {
-        scene,
-        rows: Rows::of(alloc, source, account)?,
-        lives: lives_of(alloc, scene)?,
-    };
+    let page = Page::of(alloc, source, account, view)?;
     let mut out = String::new(alloc);
     page.write_head(&mut out)?;
     page.write_columns(&mut out)?;
     page.write_spans(&mut out)?;
     page.write_rows(&mut out)?;
+    write_ends(&mut out, &page)?;
     page.write_legend(&mut out)?;
     write!(out, "</svg>\n")?;
     Ok(out)
@@ -146,9 +94,52 @@ fn lives_of(alloc: Global, scene: Scene<'_>) -> Result<Lives, AllocError> {
     Ok(lives)
 }
 
+// How many rows come before the event at a position: none before the first, and all if there is none.
+fn rows_before(scene: Scene<'_>, rows: &Rows<'_>, position: u32) -> usize {
+    if position <= 1 {
+        0
+    } else if position as usize > scene.events.len() {
+        rows.rows.len()
+    } else {
+        rows.place(position).saturating_sub(1)
+    }
+}
+
+impl<'a> Page<'a> {
+    fn of(
+        alloc: Global,
+        source: &'a [u8],
+        account: &'a Account,
+        view: View,
+    ) -> Result<Self, AllocError> {
+        let scene = Scene::at_end(account);
+        let rows = Rows::of(alloc, source, account)?;
+        let before = rows_before(scene, &rows, view.part.from);
+        let end = rows_before(scene, &rows, view.part.to.saturating_add(1));
+        Ok(Page {
+            scene,
+            rows,
+            lives: lives_of(alloc, scene)?,
+            view,
+            before,
+            count: end.saturating_sub(before),
+        })
+    }
+}
+
 impl Page<'_> {
+    // How many of the first rows stand above the rows that are drawn, or among them.
+    fn end(&self) -> usize {
+        self.before.saturating_add(self.count)
+    }
+
+    /// The height of the event at a position; of one above the rows that are drawn, that of the beginning.
+    pub(crate) fn y_at(&self, position: u32) -> usize {
+        y_of(self.rows.place(position).saturating_sub(self.before))
+    }
+
     fn height(&self) -> usize {
-        y_of(self.rows.rows.len().saturating_add(1))
+        y_of(self.count.saturating_add(1))
     }
 
     // Where the column of the script's lines begins.
@@ -158,25 +149,33 @@ impl Page<'_> {
             .saturating_add(text_width(longest.unwrap_or(0)))
     }
 
-    // Where the column of the printed lines begins.
-    fn right(&self) -> usize {
+    /// Where the column of the printed lines begins.
+    pub(crate) fn right(&self) -> usize {
         self.lives
             .tasks()
             .saturating_mul(COLUMN)
             .saturating_add(LEFT + 8)
     }
 
-    fn write_head(&self, out: &mut String) -> Result<(), AllocError> {
+    // The width of the picture, which has room for a column of the legend at least.
+    fn width(&self) -> usize {
+        if !self.view.has_text {
+            return self.right().max(LEFT + LEGEND_COLUMN);
+        }
         let longest = self.rows.rows.iter().map(|row| row.statement.len()).max();
-        let width = self
-            .beyond()
-            .saturating_add(text_width(longest.unwrap_or(0).saturating_add(6)));
-        let height = self.height().saturating_add(150);
+        self.beyond()
+            .saturating_add(text_width(longest.unwrap_or(0).saturating_add(6)))
+    }
+
+    fn write_head(&self, out: &mut String) -> Result<(), AllocError> {
+        let width = self.width();
+        let height = self.height().saturating_add(self.legend_height());
         write!(
             out,
             "<svg xmlns=\"{NAMESPACE}\" viewBox=\"0 0 {width} {height}\" role=\"img\">\n"
         )?;
-        write!(out, "<title>{TITLE}</title>\n{STYLE}")
+        write!(out, "<title>{TITLE}</title>\n")?;
+        write_style(out, self.view.scheme)
     }
 
     fn write_columns(&self, out: &mut String) -> Result<(), AllocError> {
@@ -197,66 +196,126 @@ impl Page<'_> {
         Ok(())
     }
 
-    fn write_spans(&self, out: &mut String) -> Result<(), AllocError> {
-        for span in self.lives.spans() {
-            write_span(out, self.scene, &self.rows, *span)?;
+    // The bar of what a task does for a time, if it has a colour and is among the rows that are drawn.
+    fn bar_of(&self, span: Span) -> Option<Bar> {
+        if span.stage == Stage::Terminated || self.rows.place(span.from) > self.end() {
+            return None;
         }
-        Ok(())
+        let top = self.y_at(span.from);
+        let bottom = if span.to == u32::MAX || self.rows.place(span.to) > self.end() {
+            y_of(self.count).saturating_add(ROW / 2)
+        } else {
+            self.y_at(span.to)
+        };
+        if bottom > top {
+            Some(Bar { top, bottom })
+        } else {
+            None
+        }
     }
 
-    fn write_rows(&self, out: &mut String) -> Result<(), AllocError> {
-        let right = self.right();
-        let beyond = self.beyond();
-        for (i, row) in self.rows.rows.iter().enumerate() {
-            write_row(out, row, right, beyond, y_of(i.saturating_add(1)))?;
-            if let Shows::Asked(position) | Shows::Forced(position) = row.shows {
-                write_event(out, self.scene, &self.rows, position, right)?;
+    fn write_spans(&self, out: &mut String) -> Result<(), AllocError> {
+        for span in self.lives.spans() {
+            if let Some(bar) = self.bar_of(*span) {
+                write_bar(out, self.scene, *span, bar)?;
             }
         }
         Ok(())
     }
 
+    // The row at a place among those that are drawn, from 0.
+    fn row_at(&self, place: usize) -> Option<&Row<'_>> {
+        self.rows.rows.get(self.before.saturating_add(place))
+    }
+
+    fn write_rows(&self, out: &mut String) -> Result<(), AllocError> {
+        let right = self.right();
+        let beyond = self.beyond();
+        for place in 0..self.count {
+            let Some(row) = self.row_at(place) else {
+                return Ok(());
+            };
+            let y = y_of(place.saturating_add(1));
+            write_position(out, row, y)?;
+            if self.view.has_text {
+                write_text(out, row, right, beyond, y)?;
+            }
+            if let Shows::Asked(position) | Shows::Forced(position) = row.shows {
+                write_event(out, self, position)?;
+            }
+        }
+        Ok(())
+    }
+
+    // Whether a task does that somewhere among the rows that are drawn.
+    fn occurs(&self, stage: Stage) -> bool {
+        let mut spans = self.lives.spans().iter();
+        spans.any(|span| span.stage == stage && self.bar_of(*span).is_some())
+    }
+
+    // How many states stand beside each other in the legend: one to three.
+    fn legend_columns(&self) -> usize
+        ensures some { 0 < result }
+        ensures few { result ≤ 3 }
+    {
+        let room = self.width().saturating_sub(LEFT) / LEGEND_COLUMN;
+        if room == 0 { 1 } else { room.min(3) }
+    }
+
+    fn legend_height(&self) -> usize {
+        let states = STAGES
+            .iter()
+            .filter(|(stage, _, _)| self.occurs(*stage))
+            .count();
+        let columns = self.legend_columns();
+        let rows = states.saturating_add(columns - 1) / columns;
+        rows.saturating_mul(LEGEND_ROW).saturating_add(30)
+    }
+
     fn write_legend(&self, out: &mut String) -> Result<(), AllocError> {
-        let top = self.height().saturating_add(20);
-        for (i, (_, class, name)) in STAGES.iter().enumerate() {
-            let x = LEFT + (i % 3) * 230;
-            let y = top.saturating_add((i / 3).saturating_mul(24));
-            let text_y = y.saturating_add(11);
-            let text_x = x + 22;
-            write!(
-                out,
-                "<g><title>{name}</title><rect class=\"{class}\" x=\"{x}\" y=\"{y}\""
-            )?;
-            write!(out, " width=\"14\" height=\"14\"/>")?;
-            write!(
-                out,
-                "<text x=\"{text_x}\" y=\"{text_y}\">{name}</text></g>\n"
-            )?;
+        let columns = self.legend_columns();
+        let mut place = 0usize;
+        for (stage, class, name) in &STAGES {
+            if self.occurs(*stage) {
+                let x = LEFT + (place % columns) * LEGEND_COLUMN;
+                let row = (place / columns).saturating_mul(LEGEND_ROW);
+                let y = self.height().saturating_add(20).saturating_add(row);
+                write_stage(out, class, name, x, y)?;
+                place = place.saturating_add(1);
+            }
         }
         Ok(())
     }
 }
 
-// A bar for what a task does for a time.
-fn write_span(
+// A line of the legend.
+fn write_stage(
     out: &mut String,
-    scene: Scene<'_>,
-    rows: &Rows<'_>,
-    span: Span,
+    class: &str,
+    name: &str,
+    x: usize,
+    y: usize,
 ) -> Result<(), AllocError> {
-    let top = y_of(rows.place(span.from));
-    let bottom = if span.to == u32::MAX {
-        y_of(rows.rows.len()).saturating_add(ROW / 2)
-    } else {
-        y_of(rows.place(span.to))
-    };
-    if span.stage == Stage::Terminated || bottom <= top {
-        return Ok(());
-    }
+    let text_y = y.saturating_add(11);
+    let text_x = x.saturating_add(22);
+    write!(
+        out,
+        "<g><title>{name}</title><rect class=\"{class}\" x=\"{x}\" y=\"{y}\""
+    )?;
+    write!(out, " width=\"14\" height=\"14\"/>")?;
+    write!(
+        out,
+        "<text x=\"{text_x}\" y=\"{text_y}\">{name}</text></g>\n"
+    )
+}
+
+// A bar for what a task does for a time.
+fn write_bar(out: &mut String, scene: Scene<'_>, span: Span, bar: Bar) -> Result<(), AllocError> {
     let (class, name) = names_of(span.stage);
     let task = scene.task(span.task);
     let x = x_of(span.task).saturating_sub(6);
-    let height = bottom - top;
+    let top = bar.top;
+    let height = bar.bottom.saturating_sub(top);
     write!(
         out,
         "<rect class=\"{class}\" x=\"{x}\" y=\"{top}\" width=\"12\" height=\"{height}\" rx=\"3\">"
@@ -264,8 +323,21 @@ fn write_span(
     write!(out, "<title>{task}: {name}</title></rect>\n")
 }
 
-// The position, the printed line and the script's line of a row.
-fn write_row(
+// The position of a row's event.
+fn write_position(out: &mut String, row: &Row<'_>, y: usize) -> Result<(), AllocError> {
+    let (Shows::Asked(position) | Shows::Forced(position)) = row.shows else {
+        return Ok(());
+    };
+    let base = y.saturating_add(4);
+    write!(
+        out,
+        "<text class=\"position\" x=\"{}\" y=\"{base}\">{position}</text>\n",
+        LEFT - 10
+    )
+}
+
+// The printed line and the script's line of a row.
+fn write_text(
     out: &mut String,
     row: &Row<'_>,
     right: usize,
@@ -279,13 +351,6 @@ fn write_row(
         Shows::Answer if row.printed.starts_with("refused") => "refused",
         Shows::Answer => "asked",
     };
-    if let Shows::Asked(position) | Shows::Forced(position) = row.shows {
-        write!(
-            out,
-            "<text class=\"position\" x=\"{}\" y=\"{base}\">{position}</text>",
-            LEFT - 10
-        )?;
-    }
     write!(out, "<text class=\"{class}\" x=\"{right}\" y=\"{base}\">")?;
     write_escaped(out, row.without_position())?;
     write!(out, "</text>")?;
@@ -299,179 +364,4 @@ fn write_row(
         write!(out, "</text>")?;
     }
     write!(out, "\n")
-}
-
-// The mark of an event on its task's bar, and the arrow of a call or a rendezvous.
-fn write_event(
-    out: &mut String,
-    scene: Scene<'_>,
-    rows: &Rows<'_>,
-    position: u32,
-    right: usize,
-) -> Result<(), AllocError> {
-    let Some(event) = event_in(scene.events, position) else {
-        return Ok(());
-    };
-    let y = y_of(rows.place(position));
-    match event {
-        Event::Called { by, callee, .. } => {
-            write_mark(out, x_of(*by), y)?;
-            write_arrow(out, "call", x_of(*by), x_of(*callee), y)
-        }
-        Event::Met { call, wait } => {
-            let (caller, acceptor) = (holder(scene.events, *call), holder(scene.events, *wait));
-            write_meeting(out, caller, acceptor, y)
-        }
-        Event::Ended { by, call, .. } => {
-            write_mark(out, x_of(*by), y)?;
-            write_meeting(out, Some(*by), holder(scene.events, *call), y)
-        }
-        Event::Ticked { .. } => {
-            write!(
-                out,
-                "<path class=\"tick\" d=\"M {LEFT} {y} H {right}\"><title>a tick</title></path>\n"
-            )
-        }
-        Event::Left { close } => write_bracket(out, scene, rows, *close, y),
-        _ => match doer(scene, event) {
-            Some((task, true)) => write_mark(out, x_of(task), y),
-            Some((task, false)) => write_step(out, x_of(task), y),
-            None => Ok(()),
-        },
-    }
-}
-
-// The arrow of a rendezvous from one task to another one.
-fn write_meeting(
-    out: &mut String,
-    from: Option<TaskNo>,
-    to: Option<TaskNo>,
-    y: usize,
-) -> Result<(), AllocError> {
-    match (from, to) {
-        (Some(from), Some(to)) => write_arrow(out, "met", x_of(from), x_of(to), y),
-        _ => Ok(()),
-    }
-}
-
-// The task on whose bar an event is marked, and whether the task asked for it.
-fn doer(scene: Scene<'_>, event: &Event) -> Option<(TaskNo, bool)> {
-    match event {
-        Event::Opened { by, .. }
-        | Event::Created { by, .. }
-        | Event::Started { by, .. }
-        | Event::Elaborated { by, .. }
-        | Event::Waiting { by, .. }
-        | Event::Paused { by, .. }
-        | Event::Closed { by, .. }
-        | Event::Completed { by }
-        | Event::Aborted { by, .. } => Some((*by, true)),
-        Event::Halted { task } | Event::Gone { task } => Some((*task, false)),
-        Event::Failed { call: position }
-        | Event::Cancelled { call: position }
-        | Event::Passed { wait: position, .. }
-        | Event::Woken { pause: position }
-        | Event::Activated {
-            start: position,
-            ..
-        } => match holder(scene.events, *position) {
-            Some(task) => Some((task, false)),
-            None => None,
-        },
-        _ => None,
-    }
-}
-
-fn write_mark(out: &mut String, x: usize, y: usize) -> Result<(), AllocError> {
-    write!(
-        out,
-        "<circle class=\"mark\" cx=\"{x}\" cy=\"{y}\" r=\"3\"><title>asked for</title></circle>\n"
-    )
-}
-
-fn write_step(out: &mut String, x: usize, y: usize) -> Result<(), AllocError> {
-    write!(
-        out,
-        "<circle class=\"step\" cx=\"{x}\" cy=\"{y}\" r=\"4\"><title>forced</title></circle>\n"
-    )
-}
-
-// An arrow from one column to another one; a loop to the same.
-fn write_arrow(
-    out: &mut String,
-    class: &str,
-    from: usize,
-    to: usize,
-    y: usize,
-) -> Result<(), AllocError> {
-    let name = if class == "call" {
-        "a call"
-    } else {
-        "a rendezvous"
-    };
-    let high = y.saturating_sub(4);
-    let low = y.saturating_add(4);
-    if from == to {
-        let beside = from.saturating_add(24);
-        write!(
-            out,
-            "<path class=\"{class}\" d=\"M {from} {high} H {beside} V {low} H {from}\">"
-        )?;
-        return write!(out, "<title>{name}</title></path>\n");
-    }
-    let head = if from < to {
-        to.saturating_sub(8)
-    } else {
-        to.saturating_add(8)
-    };
-    write!(
-        out,
-        "<g><title>{name}</title><path class=\"{class}\" d=\"M {from} {y} H {to}\"/>"
-    )?;
-    write!(
-        out,
-        "<path class=\"met\" d=\"M {head} {high} L {to} {y} L {head} {low}\"/></g>\n"
-    )
-}
-
-// How many blocks are around one.
-fn depth_of(scene: Scene<'_>, block: u32) -> usize {
-    let mut depth = 0usize;
-    let mut next = block;
-    for _ in 0..MOST_MEMBERS {
-        match event_in(scene.events, next) {
-            Some(
-                Event::Opened {
-                    under: Master::Block(around),
-                    ..
-                },
-            ) => next = *around,
-            _ => return depth,
-        }
-        depth = depth.saturating_add(1);
-    }
-    depth
-}
-
-// A bracket from the opening of a block to its end, where the close at a position was left.
-fn write_bracket(
-    out: &mut String,
-    scene: Scene<'_>,
-    rows: &Rows<'_>,
-    close: u32,
-    bottom: usize,
-) -> Result<(), AllocError> {
-    let Some(Event::Closed { by, block }) = event_in(scene.events, close) else {
-        return Ok(());
-    };
-    let top = y_of(rows.place(*block));
-    let inner = x_of(*by).saturating_sub(12);
-    let depth = depth_of(scene, *block);
-    let outer = inner.saturating_sub(26usize.saturating_sub(depth.saturating_mul(4)).max(6));
-    let name = scene.block(*block);
-    write!(
-        out,
-        "<path class=\"block\" d=\"M {inner} {top} H {outer} V {bottom} H {inner}\">"
-    )?;
-    write!(out, "<title>block {name}</title></path>\n")
 }
