@@ -186,8 +186,8 @@ fn write_choice(
     write!(text, "{before}{}", scene.entry(task, choice.entry))
 }
 
-// The entries of the open accept alternatives of a wait.
-fn write_choices(
+/// Appends the entries of the open accept alternatives of a wait.
+pub(crate) fn write_choices(
     text: &mut String,
     scene: Scene<'_>,
     task: TaskNo,
