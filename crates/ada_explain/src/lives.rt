@@ -52,7 +52,7 @@ struct Life {
 }
 
 /// The longest way from a master outwards: each task and each block once.
-const MOST_MASTERS: u32 = 65_536;
+pub const MOST_MASTERS: u32 = 65_536;
 
 /// What all tasks do now, and what they did.
 #[derive(Drop)]
@@ -222,9 +222,9 @@ impl Lives {
         self.release(position, acceptor)
     }
 
-    // The master around one (9.4): around a task's body what the task depends on, and around a block what its task was
-    // in when it opened it.
-    fn around(&self, events: &[Event], master: Master) -> Option<Master> {
+    /// The master around one (9.4): around a task's body what the task depends on, and around a block what its task was
+    /// in when it opened it.
+    pub fn around(&self, events: &[Event], master: Master) -> Option<Master> {
         match master {
             Master::Body(task) => match self.now.get(usize::from(task.0)) {
                 Some(life) => life.master,

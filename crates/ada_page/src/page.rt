@@ -65,7 +65,7 @@ fn put_title(page: &mut String, plays: &[Play<'_>]) -> Result<(), AllocError> {
 // Appends what `explain` tells of a play, or `lint` of a script with a faulty line, as HTML.
 fn put_told(alloc: Global, out: &mut String, play: &Play<'_>) -> Result<(), RunFault> {
     let told = match read_script(alloc, play.text) {
-        Ok(script) => explain(alloc, play.text, script)?.text,
+        Ok(script) => explain(alloc, play.text, script, false)?.text,
         Err(RunFault::Script(_)) => faults_told(alloc, play)?,
         Err(fault) => return Err(fault),
     };

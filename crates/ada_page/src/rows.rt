@@ -5,7 +5,9 @@ use crate::texts::put_member;
 use ada_events::journal::event_in;
 use ada_events::{Event, TaskNo};
 use ada_explain::Scene;
-use ada_explain::lives::{Lives, Stage};
+use ada_explain::arrival::Arrival;
+use ada_explain::lives::Stage;
+use ada_explain::past::Past;
 use ada_renderings::json::members::{put_number, put_position, put_text, put_truth};
 use ada_renderings::json::telling::{kind_of, put_told};
 use ada_replay::Answer;
@@ -15,12 +17,12 @@ use itoa::Buffer;
 use std::alloc::{AllocError, Global};
 use std::str;
 
-/// What is written, and what all tasks do after the events that were written.
+/// What is written, and what came by the events that were written.
 #[derive(Drop)]
 struct Writer<'a> {
     alloc: Global,
     scene: Scene<'a>,
-    lives: Lives,
+    past: Past,
     printed: Lines<'a>,
     out: String,
 }
@@ -31,7 +33,7 @@ pub fn write_rows(alloc: Global, shown: &Shown) -> Result<String, AllocError> {
     let mut writer = Writer {
         alloc,
         scene: Scene::at_end(account),
-        lives: Lives::new(alloc)?,
+        past: Past::new(alloc)?,
         printed: Lines::new(&account.text),
         out: String::new(alloc),
     };
@@ -139,7 +141,8 @@ impl Writer<'_> {
         put_member(&mut self.out, "printed", str::from_utf8(line).unwrap_or(""))
     }
 
-    // What happened by the event at a position, after those before it, and what tasks do then that did something else.
+    // What happened by the event at a position, after those before it, why it came, and what tasks do then that did
+    // something else.
     fn put_event(&mut self, position: u32) -> Result<(), AllocError> {
         let line = self.printed.next().unwrap_or(&[]);
         let printed = without_position(str::from_utf8(line).unwrap_or(""));
@@ -149,14 +152,30 @@ impl Writer<'_> {
             return Ok(());
         };
         put_text(&mut self.out, "kind", kind_of(event))?;
-        let made = TaskNo((self.lives.tasks() % 65_536) as u16);
+        let made = TaskNo((self.past.lives().tasks() % 65_536) as u16);
         let changed = self.take(position, event, made)?;
         let quit: &[TaskNo] = match event {
             Event::Quit { .. } => &changed,
             _ => &[],
         };
         put_told(&mut self.out, scene, position, event, made, quit)?;
+        self.put_because(position)?;
         self.put_stages(&changed)
+    }
+
+    // By which row the event at a position was forced, and why it came.
+    fn put_because(&mut self, position: u32) -> Result<(), AllocError> {
+        let arrival = Arrival {
+            scene: self.scene,
+            past: &self.past,
+            position,
+        };
+        if let Some(row) = arrival.row() {
+            put_number(&mut self.out, "rule", i64::from(row))?;
+        }
+        let mut text = String::new(self.alloc);
+        arrival.write(&mut text)?;
+        put_member(&mut self.out, "because", &text)
     }
 
     // The tasks that do something else by an event, a new one among them.
@@ -166,13 +185,10 @@ impl Writer<'_> {
         event: &Event,
         made: TaskNo,
     ) -> Result<Vec<TaskNo>, AllocError> {
-        let before = self.lives.spans().len();
-        self.lives.take(self.scene.events, position, event)?;
+        self.past.take(self.scene, position, event)?;
         let mut changed = Vec::new(self.alloc);
-        for at in before..self.lives.spans().len() {
-            if let Some(span) = self.lives.spans().get(at) {
-                changed.push(span.task)?;
-            }
+        for span in self.past.ended() {
+            changed.push(span.task)?;
         }
         if let Event::Created { .. } = event {
             changed.push(made)?;
@@ -184,7 +200,7 @@ impl Writer<'_> {
         let mut before = ",\"stages\":{";
         for task in changed {
             let name = self.scene.task(*task);
-            let word = word_of(self.lives.stage(*task));
+            let word = word_of(self.past.lives().stage(*task));
             write!(self.out, "{before}\"{name}\":\"{word}\"")?;
             before = ",";
         }

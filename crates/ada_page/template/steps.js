@@ -7,6 +7,12 @@ function nameOf(row) {
   return row.kind === "refused" || row.kind === "shown" ? row.kind : "the beginning";
 }
 
+// Why a row came: the reason of a refusal, or what asked for an event or made it due.
+function becauseOf(row) {
+  if (row.kind === "refused") return row.why;
+  return (row.rule ? `row ${row.rule}: ` : "") + (row.because || "");
+}
+
 function show() {
   const row = rows[place], moment = at("moment", place), printed = row.printed || "the beginning";
   $("slider").value = place;
@@ -15,8 +21,7 @@ function show() {
   $("line").textContent = row.line ? `${row.line}  ${play.script[row.line - 1].trim()}` : play.file;
   $("event").textContent = printed;
   $("event").classList.toggle("bad", row.kind === "refused");
-  const forced = row.forced_by ? `forced by event ${row.forced_by}` : "";
-  $("because").textContent = row.kind === "refused" ? row.why : forced;
+  $("because").textContent = becauseOf(row);
   $("slider").setAttribute("aria-valuetext", `${nameOf(row)}: ${row.printed || play.file}`);
   $("said").textContent = `${nameOf(row)}: ${row.printed || ""} ${$("because").textContent}`;
   for (const id of ["first", "back", "backline"]) $(id).disabled = place === 0;

@@ -5,6 +5,7 @@ pub mod announced;
 pub mod checking;
 pub mod conforming;
 pub mod draw_order;
+pub mod explain_order;
 pub mod exploring;
 pub mod fixing;
 pub mod input;

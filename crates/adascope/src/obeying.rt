@@ -118,7 +118,8 @@ fn tell<R: Files + Input + Print + AllocGlobal>(
 ) -> Result<Finding, ScopeFault> {
     let text = text_of(rt, file)?;
     match what {
-        What::Explanation => tell_explanation(rt, &text, is_strict, is_colored),
+        What::Explanation => tell_explanation(rt, &text, false, is_strict, is_colored),
+        What::Reasons => tell_explanation(rt, &text, true, is_strict, is_colored),
         What::Faults(most) => {
             let form = Form::Text(file.unwrap_or(STANDARD_INPUT));
             tell_faults(rt, form, &text, most, is_colored)
@@ -128,9 +129,9 @@ fn tell<R: Files + Input + Print + AllocGlobal>(
     }
 }
 
-fn explanation_of(alloc: Global, text: &[u8]) -> Result<Explanation, RunFault> {
+fn explanation_of(alloc: Global, text: &[u8], is_each: bool) -> Result<Explanation, RunFault> {
     let script = read_script(alloc, text)?;
-    explain(alloc, text, script)
+    explain(alloc, text, script, is_each)
 }
 
 // Whether something was found that was looked for.
@@ -149,10 +150,11 @@ fn finding(explanation: &Explanation, is_strict: bool) -> Finding {
 fn tell_explanation<R: Print + AllocGlobal>(
     rt: &R,
     text: &[u8],
+    is_each: bool,
     is_strict: bool,
     is_colored: bool,
 ) -> Result<Finding, ScopeFault> {
-    let explanation = explanation_of(rt.alloc(), text)?;
+    let explanation = explanation_of(rt.alloc(), text, is_each)?;
     print(rt, &explanation.text, Kind::Explanation, is_colored)?;
     Ok(finding(&explanation, is_strict))
 }

@@ -1,6 +1,7 @@
 //! The command line: what its words order.
 
 use crate::draw_order::{draw, drawn_in};
+use crate::explain_order::{explain, explained};
 use crate::page_order::{Paging, page, paged};
 use ada_expectations::Form;
 use ada_renderings::draw::{Part, View};
@@ -13,6 +14,8 @@ use std::convert::AsStr;
 pub enum What {
     /// Its journal, why lines were refused, and what stands still at the end.
     Explanation,
+    /// The same, and why each event came.
+    Reasons,
     /// Its faulty lines, so many of the findings at most.
     Faults(usize),
     /// The same as JSON.
@@ -138,15 +141,6 @@ static ABOUT: &str = "Explain and check scripts of requests to a kernel of Ada t
 
 static VERSION: &str = "0.1.0";
 
-static EXPLAIN: &str =
-    "Print the journal beside the script, why lines were refused, and what stands still at the end";
-
-static EXPLAIN_HELP: &str = "Examples:
-
-  adascope explain design.tasks
-  adascope explain --strict design.tasks || echo refused or stuck
-";
-
 static LINT: &str = "Name every faulty line, with its column and what to write instead";
 
 /// So many findings are printed if not all are asked for.
@@ -249,9 +243,6 @@ static CHOICES: &str = "Write its choices to this file: whose line comes next, a
 
 static FILE: &str = "The file that has the script, or - for the standard input, as without it";
 
-static STRICT: &str =
-    "End with status 3 where a line was refused, or the end is stuck, or has a circle of tasks";
-
 static STRICT_LOG: &str = "End with status 3 where a log that conforms ends stuck, or has a circle";
 
 static COLOR: &str =
@@ -284,7 +275,7 @@ pub(crate) fn file<'a>(alloc: Global, name: &'a str) -> Arg<'a> {
     Arg::new(alloc, name).action(ArgAction::Set).help(FILE)
 }
 
-fn color_option<'a>(alloc: Global) -> Arg<'a> {
+pub(crate) fn color_option<'a>(alloc: Global) -> Arg<'a> {
     Arg::new(alloc, "color")
         .long("color")
         .value_name("WHEN")
@@ -294,20 +285,11 @@ fn color_option<'a>(alloc: Global) -> Arg<'a> {
         .help(COLOR)
 }
 
-fn strict_option<'a>(alloc: Global, help: &'a str) -> Arg<'a> {
+pub(crate) fn strict_option<'a>(alloc: Global, help: &'a str) -> Arg<'a> {
     Arg::new(alloc, "strict")
         .long("strict")
         .action(ArgAction::SetTrue)
         .help(help)
-}
-
-fn explain<'a>(alloc: Global) -> Result<Command<'a>, AllocError> {
-    Command::new(alloc, "explain")
-        .about(EXPLAIN)
-        .after_help(EXPLAIN_HELP)
-        .arg(file(alloc, "FILE"))?
-        .arg(strict_option(alloc, STRICT))?
-        .arg(color_option(alloc))
 }
 
 fn compare<'a>(alloc: Global) -> Result<Command<'a>, AllocError> {
@@ -469,7 +451,7 @@ fn ordered<'a>(alloc: Global, matches: &ArgMatches<'a>) -> Result<Order<'a>, All
         Some(("check", found)) => plain(Job::Check(checked(alloc, found)?)),
         Some(("page", found)) => plain(Job::Page(paged(alloc, found)?)),
         Some((_, found)) => Order {
-            job: tell(What::Explanation, found, found.get_flag("strict")),
+            job: explained(found),
             color: color_in(found),
         },
         None => plain(Job::Tell {
@@ -538,7 +520,7 @@ fn plain<'a>(job: Job<'a>) -> Order<'a> {
     }
 }
 
-fn tell<'a>(what: What, matches: &ArgMatches<'a>, is_strict: bool) -> Job<'a> {
+pub(crate) fn tell<'a>(what: What, matches: &ArgMatches<'a>, is_strict: bool) -> Job<'a> {
     Job::Tell {
         what,
         file: file_in(matches, "FILE"),
