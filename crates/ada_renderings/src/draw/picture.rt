@@ -5,6 +5,7 @@ use ada_events::journal::event_in;
 use ada_events::limits::MOST_MEMBERS;
 use ada_events::{Event, Master, TaskNo};
 use ada_explain::Scene;
+use ada_explain::clients::Clients;
 use ada_explain::lives::{Lives, Span, Stage, holder};
 use ada_explain::rows::{Row, Rows, Shows};
 use ada_replay::Account;
@@ -37,6 +38,7 @@ text { font: 12px ui-monospace, monospace; fill: currentColor; }
 .step { fill: none; stroke: currentColor; stroke-width: 1.5; }
 .call { stroke: currentColor; stroke-width: 1.5; stroke-dasharray: 3 3; fill: none; }
 .met { stroke: currentColor; stroke-width: 2; fill: none; }
+.served { stroke: currentColor; stroke-width: 1.5; stroke-dasharray: 8 4; fill: none; }
 .block { stroke: currentColor; stroke-width: 1.5; fill: none; }
 .not-started { fill: #d0d7de; }
 .activating { fill: #a5d6ff; }
@@ -106,12 +108,20 @@ fn y_of(row: usize) -> usize {
     row.saturating_mul(ROW).saturating_add(TOP)
 }
 
-/// What is drawn: the scene, its rows, and what its tasks do.
+/// A task that waits at the end for other calls than the one that it served last, and whom it served.
+#[derive(Clone, Copy, Debug, PartialEq, Eq)]
+struct Held {
+    server: TaskNo,
+    client: TaskNo,
+}
+
+/// What is drawn: the scene, its rows, what its tasks do, and who holds whom at the end.
 #[derive(Drop)]
 struct Page<'a> {
     scene: Scene<'a>,
     rows: Rows<'a>,
     lives: Lives,
+    held: Vec<Held>,
 }
 
 /// Draws a play, of whose script this is the source.
@@ -125,12 +135,14 @@ pub fn write_picture<'a>(
         scene,
         rows: Rows::of(alloc, source, account)?,
         lives: lives_of(alloc, scene)?,
+        held: held_in(alloc, scene)?,
     };
     let mut out = String::new(alloc);
     page.write_head(&mut out)?;
     page.write_columns(&mut out)?;
     page.write_spans(&mut out)?;
     page.write_rows(&mut out)?;
+    page.write_held(&mut out)?;
     page.write_legend(&mut out)?;
     write!(out, "</svg>\n")?;
     Ok(out)
@@ -146,9 +158,23 @@ fn lives_of(alloc: Global, scene: Scene<'_>) -> Result<Lives, AllocError> {
     Ok(lives)
 }
 
+// Who holds whom at the end.
+fn held_in(alloc: Global, scene: Scene<'_>) -> Result<Vec<Held>, AllocError> {
+    let clients = Clients::of(alloc, scene.events)?;
+    let mut held = Vec::new(alloc);
+    for task in 0..scene.kernel.tasks() {
+        let server = TaskNo(task);
+        if let Some(client) = clients.client_of(scene, server) {
+            held.push(Held { server, client })?;
+        }
+    }
+    Ok(held)
+}
+
 impl Page<'_> {
     fn height(&self) -> usize {
-        y_of(self.rows.rows.len().saturating_add(1))
+        let rows = self.rows.rows.len().saturating_add(self.held.len());
+        y_of(rows.saturating_add(1))
     }
 
     // Where the column of the script's lines begins.
@@ -212,6 +238,22 @@ impl Page<'_> {
             if let Shows::Asked(position) | Shows::Forced(position) = row.shows {
                 write_event(out, self.scene, &self.rows, position, right)?;
             }
+        }
+        Ok(())
+    }
+
+    // A dashed arrow beneath the rows for each that holds another one.
+    fn write_held(&self, out: &mut String) -> Result<(), AllocError> {
+        let right = self.right();
+        for (i, held) in self.held.iter().enumerate() {
+            let row = self.rows.rows.len().saturating_add(i).saturating_add(1);
+            let y = y_of(row);
+            write_arrow(out, "served", x_of(held.server), x_of(held.client), y)?;
+            let base = y.saturating_add(4);
+            let server = self.scene.task(held.server);
+            let client = self.scene.task(held.client);
+            write!(out, "<text class=\"forced\" x=\"{right}\" y=\"{base}\">")?;
+            write!(out, "{server} last served {client}</text>\n")?;
         }
         Ok(())
     }
@@ -404,10 +446,10 @@ fn write_arrow(
     to: usize,
     y: usize,
 ) -> Result<(), AllocError> {
-    let name = if class == "call" {
-        "a call"
-    } else {
-        "a rendezvous"
+    let name = match class {
+        "call" => "a call",
+        "served" => "last served",
+        _ => "a rendezvous",
     };
     let high = y.saturating_sub(4);
     let low = y.saturating_add(4);
