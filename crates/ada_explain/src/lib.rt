@@ -7,6 +7,7 @@ pub mod arrival;
 mod asked;
 pub mod causes;
 pub mod circles;
+pub mod clients;
 pub mod end;
 pub mod explanation;
 mod forced;

@@ -1,6 +1,7 @@
 //! What stands still at the end of a play, and what would let it go on.
 use crate::Scene;
 use crate::circles::circles;
+use crate::clients::Clients;
 use crate::end::End;
 use crate::reasons::{maker, write_reason};
 use ada_events::journal::event_in;
@@ -28,9 +29,10 @@ pub fn write_standstill(text: &mut String, scene: Scene<'_>) -> Result<Standstil
         });
     }
     let end = End { scene };
+    let clients = Clients::of(*text.allocator(), scene.events)?;
     write!(text, "\nAt the end:\n")?;
     for task in 0..end.tasks() {
-        write_task(text, &end, TaskNo(task))?;
+        write_task(text, &end, &clients, TaskNo(task))?;
     }
     let has_circle = write_circles(text, &end)?;
     write_verdict(text, &end, verdict)?;
@@ -41,12 +43,20 @@ pub fn write_standstill(text: &mut String, scene: Scene<'_>) -> Result<Standstil
 }
 
 /// Appends what one task does, if it isn't terminated.
-pub fn write_task(text: &mut String, end: &End<'_>, task: TaskNo) -> Result<(), AllocError> {
+pub fn write_task(
+    text: &mut String,
+    end: &End<'_>,
+    clients: &Clients,
+    task: TaskNo,
+) -> Result<(), AllocError> {
     match end.reason(task) {
         Some(reason) => {
             write!(text, "  ")?;
             write_reason(text, end.scene, task, reason)?;
             write_remedy(text, end, task, reason)?;
+            if let Some(client) = clients.client_of(end.scene, task) {
+                write_client(text, end, client)?;
+            }
             write!(text, ".\n")
         }
         None if end.runs(task) => write!(text, "  {} runs: it may act.\n", end.scene.task(task)),
@@ -112,6 +122,37 @@ fn write_callers(
     write!(text, "; ")?;
     end.scene.write_tasks(text, &runners)?;
     write!(text, " could call it")
+}
+
+// Whom a task served last, and what that does.
+fn write_client(text: &mut String, end: &End<'_>, client: TaskNo) -> Result<(), AllocError> {
+    write!(text, "; it last served {}, which ", end.scene.task(client))?;
+    match end.reason(client) {
+        None => text.push_str("runs"),
+        Some(Reason::NotStarted) => text.push_str("was never activated"),
+        Some(Reason::Activating { .. }) => text.push_str("waits for an activation"),
+        Some(Reason::Queued { call }) => write_call(text, end.scene, "waits in", call),
+        Some(Reason::InRendezvous { call }) => write_call(text, end.scene, "is served in", call),
+        Some(Reason::Waiting { .. }) => text.push_str("waits for a call"),
+        Some(Reason::Delayed { .. }) => text.push_str("is delayed"),
+        Some(Reason::Leaving { .. }) => text.push_str("waits at the end of a block"),
+        Some(Reason::Completed) => text.push_str("is completed"),
+    }
+}
+
+// That a task does something in its call, the event at a position.
+fn write_call(
+    text: &mut String,
+    scene: Scene<'_>,
+    does: &str,
+    call: u32,
+) -> Result<(), AllocError> {
+    match event_in(scene.events, call) {
+        Some(Event::Called { callee, entry, .. }) => {
+            write!(text, "{does} its call of {}", scene.entry(*callee, *entry))
+        }
+        _ => Ok(()),
+    }
 }
 
 // The circles of tasks that wait for one another; whether there is one.

@@ -88,7 +88,7 @@ pub fn show(alloc: Global, script: Script) -> Result<Shown, RunFault>
     let (lines, mut names) = script.into_parts().map_err(|_| RunFault::Memory)?;
     let mut kernel = Kernel::new(alloc).map_err(|_| RunFault::Memory)?;
     let first = standing_in(alloc, &kernel)?;
-    let mut teller = Teller::new(alloc);
+    let mut teller = or_memory(Teller::new(alloc))?;
     or_memory(teller.tell(&kernel, &names, &first))?;
     let moments = moments_of(alloc, &mut kernel, &mut names, &lines, &mut teller)?;
     Ok(Shown {

@@ -7,6 +7,7 @@ use crate::texts::{put_member, put_quoted};
 use crate::whys::Whys;
 use ada_explain::Scene;
 use ada_explain::circles::circles;
+use ada_explain::clients::Clients;
 use ada_explain::end::End;
 use ada_explain::refusals::write_refused;
 use ada_explain::standstill::write_verdict;
@@ -20,6 +21,9 @@ use std::alloc::{AllocError, Global};
 #[derive(Drop)]
 pub struct Teller {
     alloc: Global,
+    clients: Clients,
+    /// How many events the clients are of.
+    taken: usize,
     whys: Whys,
     queues: String,
     nests: String,
@@ -45,16 +49,18 @@ fn put_changed(
 
 impl Teller {
     /// Nothing was told yet.
-    pub fn new(alloc: Global) -> Self {
-        Teller {
+    pub fn new(alloc: Global) -> Result<Self, AllocError> {
+        Ok(Teller {
             alloc,
+            clients: Clients::new(alloc)?,
+            taken: 0,
             whys: Whys::new(alloc),
             queues: String::new(alloc),
             nests: String::new(alloc),
             circles: String::new(alloc),
             verdict: String::new(alloc),
             told: Vec::new(alloc),
-        }
+        })
     }
 
     /// Tells what stands in a kernel now.
@@ -105,8 +111,11 @@ impl Teller {
         standing: &Standing,
     ) -> Result<(), AllocError> {
         let end = End { scene };
+        let newer = scene.events.get(self.taken..).unwrap_or(&[]);
+        self.clients.take(scene.events, newer)?;
+        self.taken = scene.events.len();
         let queues = Queues::of(self.alloc, scene, standing)?;
-        self.whys.tell(out, &end, standing, &queues)?;
+        self.whys.tell(out, &end, &self.clients, standing, &queues)?;
         let mut text = String::new(self.alloc);
         queues.write(&mut text, scene)?;
         put_changed(out, "queues", &mut self.queues, text)?;

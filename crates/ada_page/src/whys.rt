@@ -4,6 +4,7 @@ use crate::queues::Queues;
 use crate::standing::{Doing, Standing};
 use crate::texts::put_quoted;
 use ada_events::TaskNo;
+use ada_explain::clients::Clients;
 use ada_explain::end::End;
 use ada_explain::reasons::{awaited, meeting_of};
 use ada_explain::standstill::write_task;
@@ -17,7 +18,15 @@ struct Last {
     runs: bool,
     /// Its place in a queue, 0 if it stands in none.
     place: u32,
+    client: Option<Client>,
     text: String,
+}
+
+/// The task that a task served last, and why that doesn't go on.
+#[derive(Clone, Copy, Debug, PartialEq, Eq)]
+struct Client {
+    task: TaskNo,
+    reason: Option<Reason>,
 }
 
 /// What was told last of each task.
@@ -71,12 +80,13 @@ impl Last {
             reason: None,
             runs: false,
             place: 0,
+            client: None,
             text: String::new(alloc),
         }
     }
 
     // Whether what was told still holds.
-    fn holds(&self, doing: &Doing, place: u32, is_other_run: bool) -> bool {
+    fn holds(&self, doing: &Doing, place: u32, client: Option<Client>, is_other_run: bool) -> bool {
         let depends = match doing.reason {
             Some(reason) => depends_on_others(reason, is_other_run),
             None => false,
@@ -86,6 +96,7 @@ impl Last {
             && self.reason == doing.reason
             && self.runs == doing.runs
             && self.place == place
+            && self.client == client
     }
 }
 
@@ -104,6 +115,7 @@ impl Whys {
         &mut self,
         out: &mut String,
         end: &End<'_>,
+        clients: &Clients,
         standing: &Standing,
         queues: &Queues,
     ) -> Result<(), AllocError> {
@@ -112,7 +124,7 @@ impl Whys {
         for (task, doing) in standing.doings.iter().enumerate() {
             let task = TaskNo((task % 65_536) as u16);
             let place = queues.place_of(task);
-            if self.changes(end, task, doing, place, is_other_run)? {
+            if self.changes(end, clients, task, doing, place, is_other_run)? {
                 write!(
                     out,
                     "{before}\"{}\":{}",
@@ -148,22 +160,25 @@ impl Whys {
     fn changes(
         &mut self,
         end: &End<'_>,
+        clients: &Clients,
         task: TaskNo,
         doing: &Doing,
         place: u32,
         is_other_run: bool,
     ) -> Result<bool, AllocError> {
+        let client = client_of(end, clients, task);
         if usize::from(task.0) >= self.last.len() {
             self.last.push(Last::new(self.alloc))?;
         }
         let Some(last) = self.last.get_mut(usize::from(task.0)) else {
             return Ok(false);
         };
-        if last.holds(doing, place, is_other_run) {
+        if last.holds(doing, place, client, is_other_run) {
             return Ok(false);
         }
         let mut text = String::new(self.alloc);
-        write_why(&mut text, end, task, doing)?;
+        write_why(&mut text, end, clients, task, doing)?;
+        last.client = client;
         last.reason = doing.reason;
         last.runs = doing.runs;
         last.place = place;
@@ -173,15 +188,25 @@ impl Whys {
     }
 }
 
+// The task that a task served last, if it waits for other calls than that one.
+fn client_of(end: &End<'_>, clients: &Clients, task: TaskNo) -> Option<Client> {
+    let client = clients.client_of(end.scene, task)?;
+    Some(Client {
+        task: client,
+        reason: end.reason(client),
+    })
+}
+
 // Why a task doesn't go on, or that it runs; null if it is terminated.
 fn write_why(
     out: &mut String,
     end: &End<'_>,
+    clients: &Clients,
     task: TaskNo,
     doing: &Doing,
 ) -> Result<(), AllocError> {
     let mut sentence = String::new(*out.allocator());
-    write_task(&mut sentence, end, task)?;
+    write_task(&mut sentence, end, clients, task)?;
     if sentence.is_empty() {
         return out.push_str("null");
     }
@@ -192,6 +217,9 @@ fn write_why(
     }
     if let Some(due) = doing.due {
         write!(out, ",\"due\":{due}")?;
+    }
+    if let Some(client) = clients.client_of(end.scene, task) {
+        write!(out, ",\"served\":\"{}\"", end.scene.task(client))?;
     }
     out.push('}')
 }

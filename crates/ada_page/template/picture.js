@@ -97,6 +97,20 @@ function showRow(svg, frame, row, i) {
   svg.append(group);
 }
 
+// Whom tasks served last that wait for other calls, as dashed arrows beneath the place.
+function showServed(svg, frame) {
+  if (!isSettled(place)) return;
+  let y = frame.y(place);
+  for (const name of frame.names) {
+    const why = at("why " + name, place);
+    if (!why?.served) continue;
+    const group = draw("g", {}, `${name} last served ${why.served}`);
+    y += 6;
+    showArrow(group, frame, "served", name, why.served, y);
+    svg.append(group);
+  }
+}
+
 function showTime() {
   const box = $("time"), wide = box.clientWidth, high = box.clientHeight;
   if (!wide || high < 60) {
@@ -112,6 +126,7 @@ function showTime() {
   for (const name of frame.names) showBars(svg, frame, name);
   for (const bracket of brackets) showBracket(svg, frame, bracket);
   for (let i = frame.from; i < frame.to; i++) showRow(svg, frame, rows[i], i);
+  showServed(svg, frame);
   box.replaceChildren(svg);
   const who = frame.x.get(rows[place].by || rows[place].caller || rows[place].task);
   const isSeen = who >= box.scrollLeft + LEFT && who <= box.scrollLeft + wide - frame.column / 2;

@@ -1,5 +1,6 @@
 //! Pictures of a play: its tasks and events in time, its calls as a sequence, and who waits for whom at its end.
 pub mod graph;
+mod held;
 mod marks;
 pub mod markup;
 pub mod picture;

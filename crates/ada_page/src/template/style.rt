@@ -146,6 +146,7 @@ position: relative; }
 .time .grid { stroke: var(--line); }
 .time .hererow { fill: var(--here); }
 .time .call { stroke: var(--text); stroke-width: 1.5; stroke-dasharray: 3 3; fill: none; }
+.time .served { stroke: var(--text); stroke-width: 1.5; stroke-dasharray: 8 4; fill: none; }
 .time .met, .time .tip { stroke: var(--text); stroke-width: 2; fill: none; }
 .time .tick { stroke: var(--faint); stroke-dasharray: 6 4; }
 .time .block { stroke: var(--faint); stroke-width: 1.5; fill: none; }

@@ -73,6 +73,8 @@ function cardOf(task, now) {
   for (const [name, callers] of shown) card.append(entryLine(name, callers, open.has(name)));
   const isCall = why && (why.reason === \"queued\" || why.reason === \"in rendezvous\");
   if (why && why.awaits && !isCall) card.append(awaitedLine(why.awaits));
+  if (why && why.served) card.append(make(\"div\", { class: \"in faint\" }, \"last served \" + w\
+hy.served));
   return card;
 }
 
@@ -97,7 +99,8 @@ function pickedParts(name, task, why) {
   const parts = [make(\"p\", { class: \"faint\" }, under)];
   const since = rowOf[why?.since];
   if (since !== undefined) parts.push(goButton(`To event ${why.since}`, () => go(since)));
-  for (const other of (why?.awaits || []).slice(0, MOST_CALLERS)) {
+  for (const other of [...(why?.awaits || []), ...(why?.served ? [why.served] : [])].slice(0, MO\
+ST_CALLERS)) {
     parts.push(goButton(\"Why \" + other + \"?\", () => pick(other)));
   }
   return parts;

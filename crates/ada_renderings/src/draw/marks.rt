@@ -188,18 +188,18 @@ fn write_step(out: &mut String, x: usize, y: usize) -> Result<(), AllocError> {
     )
 }
 
-// An arrow from one column to another one; a loop to the same.
-fn write_arrow(
+/// Appends an arrow from one column to another one; a loop to the same.
+pub(crate) fn write_arrow(
     out: &mut String,
     class: &str,
     from: usize,
     to: usize,
     y: usize,
 ) -> Result<(), AllocError> {
-    let name = if class == "call" {
-        "a call"
-    } else {
-        "a rendezvous"
+    let name = match class {
+        "call" => "a call",
+        "served" => "last served",
+        _ => "a rendezvous",
     };
     let high = y.saturating_sub(4);
     let low = y.saturating_add(4);

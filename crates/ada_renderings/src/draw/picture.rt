@@ -1,7 +1,8 @@
 //! A play as SVG: a column for each task, time from above, and what each task does as a bar.
 ghost use Rattle.std.specs.Prelude.{◌<◌, ◌≤◌};
 
-use crate::draw::marks::{write_ends, write_event};
+use crate::draw::held::{Held, held_in};
+use crate::draw::marks::{write_arrow, write_ends, write_event};
 use crate::draw::markup::write_escaped;
 use crate::draw::style::{STAGES, names_of, write_style};
 use crate::draw::view::View;
@@ -45,12 +46,14 @@ fn y_of(row: usize) -> usize {
     row.saturating_mul(ROW).saturating_add(TOP)
 }
 
-/// What is drawn: the scene, its rows, what its tasks do, and which of the rows.
+/// What is drawn: the scene, its rows, what its tasks do, who holds whom at the end, and which of the rows.
 #[derive(Drop)]
 pub(crate) struct Page<'a> {
     pub(crate) scene: Scene<'a>,
     rows: Rows<'a>,
     pub(crate) lives: Lives,
+    /// None if the end isn't drawn.
+    held: Vec<Held>,
     pub(crate) view: View,
     /// So many rows come before those that are drawn.
     before: usize,
@@ -79,6 +82,7 @@ pub fn write_picture<'a>(
     page.write_spans(&mut out)?;
     page.write_rows(&mut out)?;
     write_ends(&mut out, &page)?;
+    page.write_held(&mut out)?;
     page.write_legend(&mut out)?;
     write!(out, "</svg>\n")?;
     Ok(out)
@@ -120,6 +124,11 @@ impl<'a> Page<'a> {
             scene,
             rows,
             lives: lives_of(alloc, scene)?,
+            held: if view.part.to as usize >= scene.events.len() {
+                held_in(alloc, scene)?
+            } else {
+                Vec::new(alloc)
+            },
             view,
             before,
             count: end.saturating_sub(before),
@@ -139,7 +148,8 @@ impl Page<'_> {
     }
 
     fn height(&self) -> usize {
-        y_of(self.count.saturating_add(1))
+        let rows = self.count.saturating_add(self.held.len());
+        y_of(rows.saturating_add(1))
     }
 
     // Where the column of the script's lines begins.
@@ -242,6 +252,23 @@ impl Page<'_> {
             }
             if let Shows::Asked(position) | Shows::Forced(position) = row.shows {
                 write_event(out, self, position)?;
+            }
+        }
+        Ok(())
+    }
+
+    // A dashed arrow beneath the rows for each that holds another one.
+    fn write_held(&self, out: &mut String) -> Result<(), AllocError> {
+        let right = self.right();
+        for (i, held) in self.held.iter().enumerate() {
+            let y = y_of(self.count.saturating_add(i).saturating_add(1));
+            write_arrow(out, "served", x_of(held.server), x_of(held.client), y)?;
+            if self.view.has_text {
+                let base = y.saturating_add(4);
+                let server = self.scene.task(held.server);
+                let client = self.scene.task(held.client);
+                write!(out, "<text class=\"forced\" x=\"{right}\" y=\"{base}\">")?;
+                write!(out, "{server} last served {client}</text>\n")?;
             }
         }
         Ok(())

@@ -20,6 +20,7 @@ text { font: 12px ui-monospace, monospace; fill: currentColor; }
 .quit { stroke: currentColor; stroke-width: 2.5; fill: none; }
 .call { stroke: currentColor; stroke-width: 1.5; stroke-dasharray: 3 3; fill: none; }
 .met { stroke: currentColor; stroke-width: 2; fill: none; }
+.served { stroke: currentColor; stroke-width: 1.5; stroke-dasharray: 8 4; fill: none; }
 .block { stroke: currentColor; stroke-width: 1.5; fill: none; }
 .not-started { fill: #d0d7de; }
 .activating { fill: #a5d6ff; }
