@@ -34,7 +34,7 @@ main: complete
 ";
 
 // So many random scripts are tried. One that has more schedules than these, with all that begin them, is left out.
-const SCRIPTS: u32 = 20;
+const SCRIPTS: u32 = 100;
 
 const MOST: u32 = 300;
 

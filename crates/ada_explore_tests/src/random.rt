@@ -10,7 +10,7 @@ use std::test::Fail;
 
 /// So many scripts are tried by each test. One that has more schedules than these, with all that begin them, is left
 /// out.
-const SCRIPTS: u32 = 50;
+const SCRIPTS: u32 = 500;
 
 const MOST: u32 = 300;
 
