@@ -76,6 +76,20 @@ fn moments_of(
     })
 }
 
+// What tells of a play, once it has told what stands before the first line.
+fn teller_of(
+    alloc: Global,
+    kernel: &Kernel,
+    names: &Names,
+    first: &Standing,
+) -> Result<Teller, RunFault>
+    ensures err { IfErr result (λ fault. fault ≡ RunFault.Memory) }
+{
+    let mut teller = or_memory(Teller::new(alloc))?;
+    or_memory(teller.tell(kernel, names, first))?;
+    Ok(teller)
+}
+
 /// Plays a script on a kernel of its own, and has it told what stands at the beginning and after each line. An `Err` is
 /// `Memory`.
 pub fn show(alloc: Global, script: Script) -> Result<Shown, RunFault>
@@ -88,8 +102,7 @@ pub fn show(alloc: Global, script: Script) -> Result<Shown, RunFault>
     let (lines, mut names) = script.into_parts().map_err(|_| RunFault::Memory)?;
     let mut kernel = Kernel::new(alloc).map_err(|_| RunFault::Memory)?;
     let first = standing_in(alloc, &kernel)?;
-    let mut teller = or_memory(Teller::new(alloc))?;
-    or_memory(teller.tell(&kernel, &names, &first))?;
+    let mut teller = teller_of(alloc, &kernel, &names, &first)?;
     let moments = moments_of(alloc, &mut kernel, &mut names, &lines, &mut teller)?;
     Ok(Shown {
         account: Account {
