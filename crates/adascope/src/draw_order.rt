@@ -32,8 +32,18 @@ static SCHEMES: [&str; 3] = ["auto", "light", "dark"];
 
 /// The command `draw`.
 pub(crate) fn draw<'a>(alloc: Global) -> Result<Command<'a>, AllocError> {
-    let format = choice_option(alloc, "format", FORMATS.as_slice(), FORMAT).default_value("svg");
-    let scheme = choice_option(alloc, "scheme", SCHEMES.as_slice(), SCHEME).default_value("auto");
+    let format = Arg::new(alloc, "format")
+        .long("format")
+        .action(ArgAction::Set)
+        .value_parser(FORMATS.as_slice())
+        .default_value("svg")
+        .help(FORMAT);
+    let scheme = Arg::new(alloc, "scheme")
+        .long("scheme")
+        .action(ArgAction::Set)
+        .value_parser(SCHEMES.as_slice())
+        .default_value("auto")
+        .help(SCHEME);
     let no_text = Arg::new(alloc, "no-text")
         .long("no-text")
         .action(ArgAction::SetTrue)
@@ -47,20 +57,6 @@ pub(crate) fn draw<'a>(alloc: Global) -> Result<Command<'a>, AllocError> {
         .arg(position_option(alloc, "to", TO))?
         .arg(no_text)?
         .arg(scheme)
-}
-
-// An option that has one of some words.
-fn choice_option<'a>(
-    alloc: Global,
-    name: &'a str,
-    words: &'static [&'static str],
-    help: &'a str,
-) -> Arg<'a> {
-    Arg::new(alloc, name)
-        .long(name)
-        .action(ArgAction::Set)
-        .value_parser(words)
-        .help(help)
 }
 
 // An option that has the position of an event.
