@@ -33,8 +33,9 @@ pub fn explain(
     explanation_of(alloc, source, &account, &sentences, is_each).map_err(|_| RunFault::Memory)
 }
 
-// The explanation of a play, with the sentences of its refused lines.
-fn explanation_of(
+/// Explains a play of a script, of which this is the source, with the sentences of its refused lines; also why each
+/// event came, where that is asked for.
+pub fn explanation_of(
     alloc: Global,
     source: &[u8],
     account: &Account,

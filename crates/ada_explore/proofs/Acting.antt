@@ -1,6 +1,6 @@
 -- The answer of a kernel to a line is a step of the script's schedules.
-use Rattle.std.proofs.Common.{◌≡◌, ℕ, Bool, true, false, cond, ◌&&◌, Option, Some, None, List, [], ◌∷◌, filter, refl, sym, ap, subst, ◌∙◌, inl, inr}
-use Rattle.std.specs.Option.{option_map, option_or}
+use Rattle.std.proofs.Common.{◌≡◌, ℕ, Bool, true, false, cond, Option, Some, None, List, [], ◌∷◌, filter, refl, sym, ap, subst, ◌∙◌, inl, inr}
+use Rattle.std.specs.Option.{option_or}
 use Rattle.std.proofs.lemmas.Bool.{true≢false}
 use Rattle.std.proofs.lemmas.Option.{none-some, same_Some}
 use Rattle.ada_events.specs.declared.event.Event.{Event}
@@ -18,9 +18,8 @@ use Rattle.ada_statements.specs.Scope.{Scope}
 use Rattle.ada_script.specs.declared.script.Line.{Line}
 use Rattle.ada_schedules.specs.Schedules.{Acts}
 use Rattle.ada_explore.specs.declared.turns.Turn.{Turn}
-use Rattle.ada_explore.specs.declared.turns.Picks.{Picks}
-use Rattle.ada_explore.specs.Picks.{may_have, with_pick}
-use Rattle.ada_explore.specs.Scripts.{scripted, rest, at as state, request_at, may_come, without, bound_so}
+use Rattle.ada_explore.specs.declared.turns.Freedom.{Freedom}
+use Rattle.ada_explore.specs.Scripts.{scripted, rest, at as state, request_in, may_take, left_after, names_after}
 
 -- of limits alone the first cause is a limit
 first_limit : (cs : List Cause) (cause : Refusal) → first_cause (filter (λ (c : Cause). is_limit c.name) cs) ≡ Some cause → is_limit cause ≡ true
@@ -50,37 +49,35 @@ no_limit journal request cause other refused =
     by None is limit = absurd (true≢false (sym (first_limit (causes journal request) cause limit) ∙ other))
     by (Some c) is same = is ∙ same
 
--- what a turn asks for that may come
-pub may_ask : (picks : Picks) (script : List Line) (journal : List Event) (left : List ℕ) (names : Scope) (turn : Turn) (request : Request)
-    → may_come script journal (rest left names) turn.place ≡ true → may_have picks script turn.place turn.pick ≡ true
-    → option_map (with_pick turn.pick) (request_at script names turn.place) ≡ Some request
-    → (scripted picks script).asks journal (rest left names) turn ≡ Some request
-may_ask picks script journal left names turn request may has is =
-    let asks : Option Request = option_map (with_pick turn.pick) (request_at script names turn.place) in
-    ap (λ b. cond (b && may_have picks script turn.place turn.pick) asks None) may ∙ ap (λ b. cond b asks None) has ∙ is
+-- what a turn asks for that may be taken
+pub may_ask : (freedom : Freedom) (script : List Line) (journal : List Event) (left : List ℕ) (names : Scope) (turn : Turn) (request : Request)
+    → may_take freedom script journal (rest left names) turn ≡ true → request_in script journal (rest left names) turn ≡ Some request
+    → (scripted freedom script).asks journal (rest left names) turn ≡ Some request
+may_ask freedom script journal left names turn request may is =
+    ap (λ b. cond b (request_in script journal (rest left names) turn) None) may ∙ is
 
--- a turn whose line a kernel accepted is a step
-pub accepts_line : (picks : Picks) (script : List Line) (journal new : List Event) (left left_after : List ℕ) (names names_after : Scope) (turn : Turn)
-    (position : ℕ) (made : TaskNo) (request : Request) → (scripted picks script).asks journal (rest left names) turn ≡ Some request
-    → IsAccepted journal request position new → made ≡ task_no (task_count journal) → left_after ≡ without turn.place left
-    → names_after ≡ bound_so script names turn.place position made
-    → Acts (scripted picks script) turn (state journal left names) (state new left_after names_after)
-accepts_line picks script journal new left left_after names names_after turn position made request asks accepted is_made is_left is_names =
-    let same : state new left_after names_after
-    ≡ record { journal = new; rest = (scripted picks script).after journal (rest left names) turn new }
+-- a turn whose request a kernel accepted is a step
+pub accepts_line : (freedom : Freedom) (script : List Line) (journal new : List Event) (left left_on : List ℕ) (names names_on : Scope) (turn : Turn)
+    (position : ℕ) (made : TaskNo) (request : Request) → (scripted freedom script).asks journal (rest left names) turn ≡ Some request
+    → IsAccepted journal request position new → made ≡ task_no (task_count journal) → left_on ≡ left_after turn left
+    → names_on ≡ names_after script names turn position made
+    → Acts (scripted freedom script) turn (state journal left names) (state new left_on names_on)
+accepts_line freedom script journal new left left_on names names_on turn position made request asks accepted is_made is_left is_names =
+    let same : state new left_on names_on
+    ≡ record { journal = new; rest = (scripted freedom script).after journal (rest left names) turn new }
     = rw (is_left, is_names, accepted.position, is_made) refl in
-    subst (λ to. Acts (scripted picks script) turn (state journal left names) to) (sym same)
+    subst (λ to. Acts (scripted freedom script) turn (state journal left names) to) (sym same)
     (Acts.accepted request new asks (accepted_without_limits journal request accepted.unrefused) accepted.after)
 
 -- and so is one that a kernel refused for a cause that is no limit
-pub refuses_line : (picks : Picks) (script : List Line) (journal new : List Event) (left left_after : List ℕ) (names : Scope) (turn : Turn)
-    (request : Request) (cause : Refusal) → (scripted picks script).asks journal (rest left names) turn ≡ Some request
-    → IsRefused journal request cause new → is_limit cause ≡ false → (cause ≡ OutOfMemory → ⊥) → left_after ≡ without turn.place left
-    → Acts (scripted picks script) turn (state journal left names) (state new left_after names)
-refuses_line picks script journal new left left_after names turn request cause asks refused other remembered is_left =
-    let same : state new left_after names ≡ record { journal = journal; rest = (scripted picks script).refused (rest left names) turn cause }
+pub refuses_line : (freedom : Freedom) (script : List Line) (journal new : List Event) (left left_on : List ℕ) (names : Scope) (turn : Turn)
+    (request : Request) (cause : Refusal) → (scripted freedom script).asks journal (rest left names) turn ≡ Some request
+    → IsRefused journal request cause new → is_limit cause ≡ false → (cause ≡ OutOfMemory → ⊥) → left_on ≡ left_after turn left
+    → Acts (scripted freedom script) turn (state journal left names) (state new left_on names)
+refuses_line freedom script journal new left left_on names turn request cause asks refused other remembered is_left =
+    let same : state new left_on names ≡ record { journal = journal; rest = (scripted freedom script).refused (rest left names) turn cause }
     = rw (is_left, refused.unchanged) refl in
-    subst (λ to. Acts (scripted picks script) turn (state journal left names) to) (sym same) (elim refused.named [
+    subst (λ to. Acts (scripted freedom script) turn (state journal left names) to) (sym same) (elim refused.named [
       | inl named ↦ Acts.refused request cause asks (no_limit journal request cause other named)
       | inr wanting ↦ absurd (remembered wanting.1)
     ])

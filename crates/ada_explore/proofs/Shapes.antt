@@ -15,7 +15,8 @@ use Rattle.ada_script.specs.declared.script.Line.{Line}
 use Rattle.ada_script.specs.Script.{scope_of}
 use Rattle.ada_schedules.specs.Schedules.{State, Acts, Comes}
 use Rattle.ada_explore.specs.declared.turns.Turn.{Turn}
-use Rattle.ada_explore.specs.declared.turns.Picks.{Picks}
+use Rattle.ada_explore.specs.declared.turns.Turn.TheVariants.{Line as Say, Time as Pass}
+use Rattle.ada_explore.specs.declared.turns.Freedom.{Freedom}
 use Rattle.ada_explore.specs.Scripts.{Rest, scripted, bound_so}
 use Rattle.ada_explore.specs.internal.Sameness.{shape}
 
@@ -68,20 +69,22 @@ bound_keeps script names place at made name = by (slice_get script place)
     by (Some line) = bind_keeps names line.statement at made name
     by None = refl
 
-act_keeps : (picks : Picks) (script : List Line) (turn : Turn) (from to : State Rest) (name : List ℕ) → Acts (scripted picks script) turn from to
+act_keeps : (freedom : Freedom) (script : List Line) (turn : Turn) (from to : State Rest) (name : List ℕ) → Acts (scripted freedom script) turn from to
     → shape_in to.rest.names name ≡ shape_in from.rest.names name
-act_keeps picks script turn from _ name (Acts.accepted request journal asks accepted after) = bound_keeps script from.rest.names turn.place _ _ name
-act_keeps picks script turn from _ name (Acts.refused request cause asks refused) = refl
+act_keeps freedom script (Say place pick) from _ name (Acts.accepted request journal asks accepted after) =
+    bound_keeps script from.rest.names place _ _ name
+act_keeps freedom script Pass from _ name (Acts.accepted request journal asks accepted after) = refl
+act_keeps freedom script turn from _ name (Acts.refused request cause asks refused) = refl
 
 -- a schedule changes none
-comes_keeps : (picks : Picks) (script : List Line) (turns : List Turn) (to : State Rest) (name : List ℕ) → Comes (scripted picks script) turns to
+comes_keeps : (freedom : Freedom) (script : List Line) (turns : List Turn) (to : State Rest) (name : List ℕ) → Comes (scripted freedom script) turns to
     → shape_in to.rest.names name ≡ shape_in (scope_of script) name
-comes_keeps picks script turns to name (Comes.begun) = refl
-comes_keeps picks script turns to name (Comes.one_more {choices = before} {from} {to = end} turn comes acts) =
-    act_keeps picks script turn from end name acts ∙ comes_keeps picks script before from name comes
+comes_keeps freedom script turns to name (Comes.begun) = refl
+comes_keeps freedom script turns to name (Comes.one_more {choices = before} {from} {to = end} turn comes acts) =
+    act_keeps freedom script turn from end name acts ∙ comes_keeps freedom script before from name comes
 
 -- so names are declared alike after any two
-pub declared_alike : (picks : Picks) (script : List Line) (turns others : List Turn) (old new : State Rest) → Comes (scripted picks script) turns old
-    → Comes (scripted picks script) others new → (name : List ℕ) → shape_in old.rest.names name ≡ shape_in new.rest.names name
-declared_alike picks script turns others old new comes too name =
-    comes_keeps picks script turns old name comes ∙ sym (comes_keeps picks script others new name too)
+pub declared_alike : (freedom : Freedom) (script : List Line) (turns others : List Turn) (old new : State Rest) → Comes (scripted freedom script) turns old
+    → Comes (scripted freedom script) others new → (name : List ℕ) → shape_in old.rest.names name ≡ shape_in new.rest.names name
+declared_alike freedom script turns others old new comes too name =
+    comes_keeps freedom script turns old name comes ∙ sym (comes_keeps freedom script others new name too)

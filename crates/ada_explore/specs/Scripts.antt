@@ -1,10 +1,11 @@
 -- A script as a program: each task says its lines in their order, and of the tasks that run any may say its next one, with
--- one of the picks that it may have.
+-- one of the picks that it may have. Time passes if none of them may say anything.
 use Rattle.std.specs.Prelude.{ℕ, ◌+◌, ◌==◌, ◌&&◌, not, Bool, true, false, if◌then◌else◌, Option, Some, None, List, length, filter, find, slice_get}
 use Rattle.std.specs.Option.{option_and_then, option_map, option_map_or, is_some}
 use Rattle.std.specs.List.{list_any, range_with_len}
 use Rattle.ada_events.specs.declared.event.Event.{Event}
 use Rattle.ada_events.specs.declared.request.Request.{Request}
+use Rattle.ada_events.specs.declared.request.Request.TheVariants.{Tick}
 use Rattle.ada_events.specs.declared.names.TaskNo.{TaskNo}
 use Rattle.ada_events.specs.Tasks.{has_task, task_count}
 use Rattle.ada_events.specs.Phases.{is_running}
@@ -14,9 +15,13 @@ use Rattle.ada_statements.specs.Scope.{Scope}
 use Rattle.ada_statements.specs.Binding.{request_of, bind}
 use Rattle.ada_script.specs.declared.script.Line.{Line}
 use Rattle.ada_script.specs.Script.{scope_of}
+use Rattle.ada_waiting.specs.Standstill.{first_due}
 use Rattle.ada_schedules.specs.Schedules.{Program, State}
 use Rattle.ada_explore.specs.declared.turns.Turn.{Turn}
-use Rattle.ada_explore.specs.declared.turns.Picks.{Picks}
+use Rattle.ada_explore.specs.declared.turns.Turn.TheVariants.{Line as Say, Time as Pass}
+use Rattle.ada_explore.specs.declared.turns.Time.{Time}
+use Rattle.ada_explore.specs.declared.turns.Time.TheVariants.{ByTicks, Late}
+use Rattle.ada_explore.specs.declared.turns.Freedom.{Freedom}
 use Rattle.ada_explore.specs.Picks.{may_have, with_pick}
 
 -- what is left of a script: the places of the lines that nobody said yet, from 0, in their order, and what names are bound to
@@ -75,28 +80,57 @@ without place left = filter (λ other. not (other == place)) left
 abbrev pub bound_so : List Line → Scope → ℕ → ℕ → TaskNo → Scope
 bound_so script names place at made = option_map_or (λ (line : Line). bind names line.statement at made) (slice_get script place) names
 
--- the places of the lines that ask for something
-abbrev pub asking : List Line → List ℕ
-asking script = filter (λ place. is_some (request_at script (scope_of script) place)) (range_with_len 0 (length script))
+-- what is asked for is searched: if time passes late, ticks are left out
+abbrev pub is_searched : Time → Option Request → Bool
+is_searched time None = false
+is_searched Late (Some (Tick now)) = false
+is_searched time (Some request) = true
 
--- what a turn asks for: its line may come, and may have its pick
-abbrev pub asked_by : Picks → List Line → List Event → Rest → Turn → Option Request
-asked_by picks script journal rest turn =
-    if may_come script journal rest turn.place && may_have picks script turn.place turn.pick
-    then option_map (with_pick turn.pick) (request_at script rest.names turn.place) else None
+-- the places of the lines that are searched
+abbrev pub asking : Freedom → List Line → List ℕ
+asking freedom script =
+    filter (λ place. is_searched freedom.time (request_at script (scope_of script) place)) (range_with_len 0 (length script))
+
+abbrev pub is_late : Time → Bool
+is_late Late = true
+is_late ByTicks = false
+
+-- a turn may be taken: its line may come, and may have its pick; or no task may say anything, and time passes late
+abbrev pub may_take : Freedom → List Line → List Event → Rest → Turn → Bool
+may_take freedom script journal rest (Say place pick) = may_come script journal rest place && may_have freedom.picks script place pick
+may_take freedom script journal rest Pass = is_late freedom.time && all_silent script journal rest
+
+-- what a turn asks for, if it may be taken: its line, with its pick; or a tick to the first moment for which a task waits
+abbrev pub request_in : List Line → List Event → Rest → Turn → Option Request
+request_in script journal rest (Say place pick) = option_map (with_pick pick) (request_at script rest.names place)
+request_in script journal rest Pass = option_map Tick (first_due journal)
+
+abbrev pub asked_by : Freedom → List Line → List Event → Rest → Turn → Option Request
+asked_by freedom script journal rest turn =
+    if may_take freedom script journal rest turn then request_in script journal rest turn else None
+
+-- the lines that are left after a turn
+abbrev pub left_after : Turn → List ℕ → List ℕ
+left_after (Say place pick) left = without place left
+left_after Pass left = left
+
+-- what names are bound to, once what a turn asks for is accepted
+abbrev pub names_after : List Line → Scope → Turn → ℕ → TaskNo → Scope
+names_after script names (Say place pick) at made = bound_so script names place at made
+names_after script names Pass at made = names
 
 -- a script as a program: a choice is a turn. A line that is refused is said, and changes nothing else
-abbrev pub scripted : Picks → List Line → Program
-scripted picks script = record {
+abbrev pub scripted : Freedom → List Line → Program
+scripted freedom script = record {
   Rest = Rest;
   Choice = Turn;
-  start = record { left = asking script; names = scope_of script };
-  asks = asked_by picks script;
+  start = record { left = asking freedom script; names = scope_of script };
+  asks = asked_by freedom script;
   after = λ journal rest turn new. record {
-    left = without turn.place rest.left;
-    names = bound_so script rest.names turn.place (length journal + 1) (task_no (task_count journal));
+    left = left_after turn rest.left;
+    names = names_after script rest.names turn (length journal + 1) (task_no (task_count journal));
   };
-  refused = λ rest turn cause. record { left = without turn.place rest.left; names = rest.names };
+  refused = λ rest turn cause. record { left = left_after turn rest.left; names = rest.names };
 }
 
 -- where a schedule of a script has come to

@@ -11,7 +11,8 @@ ghost use Rattle.ada_explore.specs.Scripts as scripts;
 ghost use Rattle.ada_explore.specs.Picks.{may_have as may_have_pick};
 ghost use Rattle.ada_explore.specs.Findings.{NeverSays, NoneGetsStuck};
 ghost use Rattle.ada_explore.specs.internal.Covering.{AllLeadOn, AreCovered, AreCovering, AreDone, AreKept, IsAlike, IsBegun};
-ghost use Rattle.ada_explore.specs.internal.Covering.{IsDone, LeadOnBelow, LeadsOnAfter, StaysWell, turn_of};
+ghost use Rattle.ada_explore.specs.internal.Covering.{IsDone, LeadOnBelow, LeadsOnAfter, StaysWell, TimeLeadsOn};
+ghost use Rattle.ada_explore.specs.internal.Covering.{turn_of};
 
 use crate::alike::Scopes;
 use crate::guess::guess;
@@ -65,9 +66,9 @@ fn is_covered_by(
     state: usize,
 ) -> Result<bool, Halt>
     ensures { IfOk result (λ covered. covered ≡ true
-        → Reaches (scripts.scripted space.entry.picks space.entry.script.now)
+        → Reaches (scripts.scripted space.entry.freedom space.entry.script.now)
         (scripts.at said.now.kernel said.now.left.items said.now.names)
-        → AreCovering space.entry.picks space.entry.script.now states.now
+        → AreCovering space.entry.freedom space.entry.script.now states.now
         (scripts.at said.now.kernel said.now.left.items said.now.names)) }
 {
     match states.schedule(state) {
@@ -87,9 +88,9 @@ fn is_covered(
     key: &Vec<u8>,
 ) -> Result<bool, Halt>
     ensures { IfOk result (λ covered. covered ≡ true
-        → Reaches (scripts.scripted space.entry.picks space.entry.script.now)
+        → Reaches (scripts.scripted space.entry.freedom space.entry.script.now)
         (scripts.at said.now.kernel said.now.left.items said.now.names)
-        → AreCovering space.entry.picks space.entry.script.now states.now
+        → AreCovering space.entry.freedom space.entry.script.now states.now
         (scripts.at said.now.kernel said.now.left.items said.now.names)) }
 {
     match states.with_key(key) {
@@ -107,10 +108,10 @@ fn meet(
     key: Vec<u8>,
 ) -> Result<bool, Halt>
     ensures { IfOk result (λ met. met ≡ true
-        → Comes (scripts.scripted space.entry.picks space.entry.script.now) (reverse schedule)
+        → Comes (scripts.scripted space.entry.freedom space.entry.script.now) (reverse schedule)
         (scripts.at said.now.kernel said.now.left.items said.now.names)
         → AreKept states.old states.new
-        × AreCovering space.entry.picks space.entry.script.now states.new
+        × AreCovering space.entry.freedom space.entry.script.now states.new
         (scripts.at said.now.kernel said.now.left.items said.now.names)) }
 {
     if !is_alike(space.alloc, space.script.lines(), said, said)? {
@@ -128,10 +129,10 @@ fn cover(
     schedule: Schedule,
 ) -> Result<bool, Halt>
     ensures { IfOk result (λ covered. covered ≡ true
-        → Comes (scripts.scripted space.entry.picks space.entry.script.now) (reverse schedule)
+        → Comes (scripts.scripted space.entry.freedom space.entry.script.now) (reverse schedule)
         (scripts.at said.now.kernel said.now.left.items said.now.names)
         → AreKept states.old states.new
-        × AreCovering space.entry.picks space.entry.script.now states.new
+        × AreCovering space.entry.freedom space.entry.script.now states.new
         (scripts.at said.now.kernel said.now.left.items said.now.names)) }
 {
     let key = key_of(space.alloc, space.script.lines(), said).map_err(|_| Halt::Memory)?;
@@ -149,13 +150,13 @@ fn cover_turn(
     standing: &Standing,
     turn: Turn,
 ) -> Result<bool, Halt>
-    requires { Comes (scripts.scripted space.picks space.script.now) (reverse path.now)
+    requires { Comes (scripts.scripted space.freedom space.script.now) (reverse path.now)
         (scripts.at standing.now.kernel standing.now.left.items standing.now.names) }
     ensures { IfOk result (λ covered. covered ≡ true → AreKept states.old states.new
-        × LeadsOnAfter space.entry.picks space.entry.script.now states.new path.now turn) }
+        × LeadsOnAfter space.entry.freedom space.entry.script.now states.new path.now turn) }
 {
     let mut said = standing.copy(space.alloc)?;
-    said.say(space.script.lines(), space.picks, turn)?;
+    said.say(space.script.lines(), space.freedom, turn)?;
     let schedule = Schedule::longer(space.alloc, path, turn)?;
     cover(space, states, &said, schedule)
 }
@@ -169,21 +170,18 @@ fn cover_pick(
     place: u16,
     pick: u32,
 ) -> Result<bool, Halt>
-    requires { Comes (scripts.scripted space.picks space.script.now) (reverse path.now)
+    requires { Comes (scripts.scripted space.freedom space.script.now) (reverse path.now)
         (scripts.at standing.now.kernel standing.now.left.items standing.now.names) }
     ensures { IfOk result (λ covered. covered ≡ true → AreKept states.old states.new
-        × (may_have_pick space.entry.picks space.entry.script.now place (Some pick) ≡ true
-        → LeadsOnAfter space.entry.picks space.entry.script.now states.new path.now
+        × (may_have_pick space.entry.freedom.picks space.entry.script.now place (Some pick) ≡ true
+        → LeadsOnAfter space.entry.freedom space.entry.script.now states.new path.now
         (turn_of place (Some pick)))) }
 {
-    let turn = Turn {
-        place,
-        pick: Some(pick),
-    };
-    if !may_have(space.picks, space.script.lines(), turn) {
+    let pick = Some(pick);
+    if !may_have(space.freedom.picks, space.script.lines(), place, pick) {
         return Ok(true);
     }
-    cover_turn(space, states, path, standing, turn)
+    cover_turn(space, states, path, standing, Turn::Line { place, pick })
 }
 
 // The same of the line at a place, with each pick that it may have below a number, or as it is written.
@@ -195,13 +193,13 @@ fn cover_picks(
     place: u16,
     below: u32,
 ) -> Result<bool, Halt>
-    requires { Comes (scripts.scripted space.picks space.script.now) (reverse path.now)
+    requires { Comes (scripts.scripted space.freedom space.script.now) (reverse path.now)
         (scripts.at standing.now.kernel standing.now.left.items standing.now.names) }
     ensures { IfOk result (λ covered. covered ≡ true
-        → LeadOnBelow space.entry.picks space.entry.script.now states.old states.new path.now
+        → LeadOnBelow space.entry.freedom space.entry.script.now states.old states.new path.now
         place below) }
 {
-    let written = Turn { place, pick: None };
+    let written = Turn::Line { place, pick: None };
     if !cover_turn(space, states, path, standing, written)? {
         return Ok(false);
     }
@@ -221,18 +219,18 @@ fn cover_line(
     standing: &Standing,
     place: u16,
 ) -> Result<bool, Halt>
-    requires { Comes (scripts.scripted space.picks space.script.now) (reverse path.now)
+    requires { Comes (scripts.scripted space.freedom space.script.now) (reverse path.now)
         (scripts.at standing.now.kernel standing.now.left.items standing.now.names) }
     ensures { IfOk result (λ covered. covered ≡ true → AreKept states.old states.new
         × (scripts.may_come space.entry.script.now standing.now.kernel
         (scripts.rest standing.now.left.items standing.now.names) place ≡ true
-        → AllLeadOn space.entry.picks space.entry.script.now states.new path.now place)) }
+        → AllLeadOn space.entry.freedom space.entry.script.now states.new path.now place)) }
 {
     let script = space.script.lines();
     if !standing.may_come(script, place) {
         return Ok(true);
     }
-    let below = picks_below(space.picks, script, place);
+    let below = picks_below(space.freedom.picks, script, place);
     cover_picks(space, states, path, standing, place, below)
 }
 
@@ -243,10 +241,10 @@ fn cover_lines(
     path: &[Turn],
     standing: &Standing,
 ) -> Result<bool, Halt>
-    requires { Comes (scripts.scripted space.picks space.script.now) (reverse path.now)
+    requires { Comes (scripts.scripted space.freedom space.script.now) (reverse path.now)
         (scripts.at standing.now.kernel standing.now.left.items standing.now.names) }
     ensures { IfOk result (λ covered. covered ≡ true
-        → AreCovered space.entry.picks space.entry.script.now states.old states.new path.now
+        → AreCovered space.entry.freedom space.entry.script.now states.old states.new path.now
         (scripts.at standing.now.kernel standing.now.left.items standing.now.names)
         (length standing.now.left.items)) }
 {
@@ -258,7 +256,28 @@ fn cover_lines(
     Ok(true)
 }
 
-// Whether what a schedule leads to is as is wanted, and each line that may come leads to what is covered.
+// Whether time, if it may pass in a standing, leads to what is covered, after a schedule.
+fn cover_time(
+    space: Space<'_>,
+    states: &mut States,
+    path: &[Turn],
+    standing: &Standing,
+) -> Result<bool, Halt>
+    requires { Comes (scripts.scripted space.freedom space.script.now) (reverse path.now)
+        (scripts.at standing.now.kernel standing.now.left.items standing.now.names) }
+    ensures { IfOk result (λ covered. covered ≡ true → AreKept states.old states.new
+        × TimeLeadsOn space.entry.freedom space.entry.script.now states.new path.now
+        (scripts.at standing.now.kernel standing.now.left.items standing.now.names)) }
+{
+    if standing.asks(space.script.lines(), space.freedom, Turn::Time) {
+        cover_turn(space, states, path, standing, Turn::Time)
+    } else {
+        Ok(true)
+    }
+}
+
+// Whether what a schedule leads to is as is wanted, and each line that may come leads to what is covered; and so does
+// time, if it may pass.
 fn go_on(
     space: Space<'_>,
     wanted: &Wanted,
@@ -266,10 +285,13 @@ fn go_on(
     path: &[Turn],
 ) -> Result<bool, Halt>
     ensures { IfOk result (λ done. done ≡ true → AreKept states.old states.new
-        × IsDone space.entry.picks space.entry.script.now wanted.now states.new path.now) }
+        × IsDone space.entry.freedom space.entry.script.now wanted.now states.new path.now) }
 {
     let standing = follow(space, path)?;
     if !wanted.is_met(&standing)? {
+        return Ok(false);
+    }
+    if !cover_time(space, states, path, &standing)? {
         return Ok(false);
     }
     cover_lines(space, states, path, &standing)
@@ -283,8 +305,8 @@ fn go_on_from(
     state: usize,
 ) -> Result<bool, Halt>
     ensures { IfOk result (λ done. done ≡ true → (start : List TurnValue)
-        → AreDone space.entry.picks space.entry.script.now wanted.now start states.old state
-        → AreDone space.entry.picks space.entry.script.now wanted.now start states.new
+        → AreDone space.entry.freedom space.entry.script.now wanted.now start states.old state
+        → AreDone space.entry.freedom space.entry.script.now wanted.now start states.new
         (state + 1)) }
 {
     let Some(schedule) = states.schedule(state) else {
@@ -297,7 +319,7 @@ fn go_on_from(
 // What a schedule leads to alone, if that stands in for itself.
 fn begin(space: Space<'_>, start: &[Turn]) -> Result<Option<States>, Halt>
     ensures { IfOk result (λ begun. IfSome begun (λ states.
-        IsBegun space.entry.picks space.entry.script.now start.now states)) }
+        IsBegun space.entry.freedom space.entry.script.now start.now states)) }
 {
     let mut states = States::new(space.alloc);
     let standing = follow(space, start)?;
@@ -319,7 +341,7 @@ fn cover_all<W: Watch>(
     watch: &mut W,
 ) -> Result<Option<u32>, Halt>
     ensures { IfOk result (λ found. IfSome found (λ states.
-        StaysWell space.entry.picks space.entry.script.now wanted.now start.now)) }
+        StaysWell space.entry.freedom space.entry.script.now wanted.now start.now)) }
 {
     if space.script.lines().len() > MOST_LINES {
         return Err(Halt::TooLong);
@@ -354,7 +376,7 @@ fn is_ended<W: Watch>(states: &States, state: u32, watch: &mut W) -> bool {
 /// script may have.
 pub fn covered_by<W: Watch>(space: Space<'_>, most: u32, watch: &mut W) -> Result<Option<u32>, Halt>
     ensures { IfOk result (λ found. IfSome found (λ states.
-        NoneGetsStuck space.entry.picks space.entry.script.now)) }
+        NoneGetsStuck space.entry.freedom space.entry.script.now)) }
 {
     cover_all(space, &[], &Wanted::Free, most, watch)
 }
@@ -370,7 +392,7 @@ pub fn never_says<W: Watch>(
     watch: &mut W,
 ) -> Result<bool, Halt>
     ensures { IfOk result (λ never. never ≡ true
-        → NeverSays space.entry.picks space.entry.script.now path.now places.now) }
+        → NeverSays space.entry.freedom space.entry.script.now path.now places.now) }
 {
     let places = Vec::from_slice(space.alloc, places).map_err(|_| Halt::Memory)?;
     let found = cover_all(space, path, &Wanted::Left(places), most, watch)?;

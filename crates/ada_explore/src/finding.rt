@@ -42,7 +42,7 @@ pub struct Finding {
 // Whether a schedule gets stuck: it is followed again.
 fn gets_stuck(space: Space<'_>, path: &[Turn]) -> Result<bool, Halt>
     ensures { IfOk result (λ stuck. stuck ≡ true
-        → GetsStuck space.entry.picks space.entry.script.now path.now) }
+        → GetsStuck space.entry.freedom space.entry.script.now path.now) }
 {
     let end = follow(space, path)?;
     Ok(is_stuck(&end.kernel))
@@ -51,7 +51,7 @@ fn gets_stuck(space: Space<'_>, path: &[Turn]) -> Result<bool, Halt>
 // The schedule that leads to a state, if it gets stuck.
 fn stuck_path(space: Space<'_>, path: Vec<Turn>) -> Result<Option<Vec<Turn>>, Halt>
     ensures { IfOk result (λ found. IfSome found (λ path.
-        GetsStuck space.entry.picks space.entry.script.now path.items)) }
+        GetsStuck space.entry.freedom space.entry.script.now path.items)) }
 {
     if gets_stuck(space, &path)? {
         Ok(Some(path))
@@ -63,7 +63,7 @@ fn stuck_path(space: Space<'_>, path: Vec<Turn>) -> Result<Option<Vec<Turn>>, Ha
 // The first schedule that a search met and that gets stuck.
 fn first_stuck(space: Space<'_>, search: &Search) -> Result<Option<Vec<Turn>>, Halt>
     ensures { IfOk result (λ found. IfSome found (λ path.
-        GetsStuck space.entry.picks space.entry.script.now path.items)) }
+        GetsStuck space.entry.freedom space.entry.script.now path.items)) }
 {
     match search.first {
         Some(state) => stuck_path(space, search.path(state)?),
@@ -79,7 +79,7 @@ fn never_says_them<W: Watch>(
     watch: &mut W,
 ) -> Result<bool, Halt>
     ensures { IfOk result (λ never. never ≡ true
-        → NeverSays space.entry.picks space.entry.script.now stop.now.path.items
+        → NeverSays space.entry.freedom space.entry.script.now stop.now.path.items
         stop.now.lines.items) }
 {
     match never_says(space, &stop.path, &stop.lines, most, watch) {
@@ -96,7 +96,7 @@ fn stop_if_so<W: Watch>(
     watch: &mut W,
 ) -> Result<Option<Stop>, Halt>
     ensures { IfOk result (λ found. IfSome found (λ stop.
-        NeverSays space.entry.picks space.entry.script.now stop.path.items stop.lines.items)) }
+        NeverSays space.entry.freedom space.entry.script.now stop.path.items stop.lines.items)) }
 {
     if never_says_them(space, &stop, most, watch)? {
         Ok(Some(stop))
@@ -113,7 +113,7 @@ fn first_stop<W: Watch>(
     watch: &mut W,
 ) -> Result<Option<Stop>, Halt>
     ensures { IfOk result (λ found. IfSome found (λ stop.
-        NeverSays space.entry.picks space.entry.script.now stop.path.items stop.lines.items)) }
+        NeverSays space.entry.freedom space.entry.script.now stop.path.items stop.lines.items)) }
 {
     if search.end != End::AllSeen || search.first.is_some() {
         return Ok(None);
@@ -136,7 +136,7 @@ fn covered<W: Watch>(
     watch: &mut W,
 ) -> Result<Option<u32>, Halt>
     ensures { IfOk result (λ found. IfSome found (λ states.
-        NoneGetsStuck space.entry.picks space.entry.script.now)) }
+        NoneGetsStuck space.entry.freedom space.entry.script.now)) }
 {
     if search.end != End::AllSeen || search.first.is_some() {
         return Ok(None);
@@ -154,11 +154,11 @@ fn covered<W: Watch>(
 /// more lines than a script may have.
 pub fn explore<W: Watch>(space: Space<'_>, most: u32, watch: &mut W) -> Result<Finding, Halt>
     ensures stuck { IfOk result (λ finding. IfSome finding.stuck (λ path.
-        GetsStuck space.entry.picks space.entry.script.now path.items)) }
+        GetsStuck space.entry.freedom space.entry.script.now path.items)) }
     ensures stopped { IfOk result (λ finding. IfSome finding.stopped (λ stop.
-        NeverSays space.entry.picks space.entry.script.now stop.path.items stop.lines.items)) }
+        NeverSays space.entry.freedom space.entry.script.now stop.path.items stop.lines.items)) }
     ensures none { IfOk result (λ finding. IfSome finding.covered (λ states.
-        NoneGetsStuck space.entry.picks space.entry.script.now)) }
+        NoneGetsStuck space.entry.freedom space.entry.script.now)) }
 {
     let search = Search::of(space, most, watch)?;
     let stuck = first_stuck(space, &search)?;

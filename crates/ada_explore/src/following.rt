@@ -8,12 +8,13 @@ use crate::{Halt, Space, Standing, Turn};
 /// Where a schedule of a script comes to: these turns, one after another, on a new kernel. An `Err` says why it doesn't
 /// go on at one of them.
 pub fn follow(space: Space<'_>, path: &[Turn]) -> Result<Standing, Halt>
-    ensures { IfOk result (λ end. Comes (scripts.scripted space.entry.picks space.entry.script.now)
-        (reverse path.now) (scripts.at end.kernel end.left.items end.names)) }
+    ensures { IfOk result (λ end.
+        Comes (scripts.scripted space.entry.freedom space.entry.script.now) (reverse path.now)
+        (scripts.at end.kernel end.left.items end.names)) }
 {
     let mut standing = Standing::new(space)?;
     for turn in path {
-        standing.say(space.script.lines(), space.picks, *turn)?;
+        standing.say(space.script.lines(), space.freedom, *turn)?;
     }
     Ok(standing)
 }

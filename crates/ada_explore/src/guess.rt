@@ -1,9 +1,11 @@
 //! Which tasks and positions of a second standing may stand for those of a first one: the k-th that matters for the
-//! k-th that matters. Nothing is promised of it: what is guessed is checked.
+//! k-th that matters, and the wait of a task for that of the task for which it stands. Nothing is promised of it: what
+//! is guessed is checked.
 
 use crate::Standing;
-use crate::keep::{Kept, Post};
-use ada_events::TaskNo;
+use crate::keep::{Kept, Kind, Post};
+use ada_events::{Event, TaskNo};
+use ada_kernel::Kernel;
 use ada_script::Line;
 use ada_standing::{Place, Renaming};
 use std::alloc::{AllocError, Global};
@@ -18,7 +20,9 @@ pub(crate) fn guess(
     let kept = Kept::of(alloc, script, old)?;
     let other = Kept::of(alloc, script, new)?;
     let tasks = tasks(alloc, old.kernel.tasks(), &kept, &other)?;
-    let places = places(alloc, &kept, &other)?;
+    let mut places = places(alloc, &kept, &other)?;
+    place_waits(&mut places, &tasks, &old.kernel, &new.kernel)?;
+    places.sort_unstable_by_key(|place| place.old);
     Ok(Renaming::new(tasks, places))
 }
 
@@ -41,25 +45,56 @@ fn tasks(
     Ok(tasks)
 }
 
-// The positions that may stand for positions.
+// The positions that may stand for positions, but for those of waits.
 fn places(alloc: Global, kept: &Kept, other: &Kept) -> Result<Vec<Place>, AllocError> {
     let mut places = Vec::new(alloc);
     for post in &kept.posts {
-        if let Some(new) = like(kept, other, *post) {
+        if post.kind == Kind::Wait {
+            continue;
+        }
+        if let Some(new) = like(other, *post) {
             places.push(Place { old: post.at, new })?;
         }
     }
-    places.sort_unstable_by_key(|place| place.old);
     Ok(places)
 }
 
-// The position of the same kind and rank.
-fn like(kept: &Kept, other: &Kept, post: Post) -> Option<u32> {
-    let rank = kept.rank(post.kind, post.at);
-    for place in &other.posts {
-        if place.kind == post.kind && other.rank(place.kind, place.at) == rank {
-            return Some(place.at);
+// Places the waits of tasks at those of the tasks that stand for them.
+fn place_waits(
+    places: &mut Vec<Place>,
+    tasks: &[Option<TaskNo>],
+    old: &Kernel,
+    new: &Kernel,
+) -> Result<(), AllocError> {
+    for number in 0..old.tasks() {
+        let Some(Some(named)) = tasks.get(usize::from(number)) else {
+            continue;
+        };
+        if let (Some(old), Some(new)) = (wait_of(old, TaskNo(number)), wait_of(new, *named)) {
+            places.push(Place { old, new })?;
         }
     }
-    None
+    Ok(())
+}
+
+// The position of the wait at which a task is suspended.
+fn wait_of(kernel: &Kernel, task: TaskNo) -> Option<u32> {
+    let view = kernel.view();
+    let at = view.record(task).suspension.at;
+    match view.event(at) {
+        Some(Event::Waiting { .. }) => Some(at),
+        _ => None,
+    }
+}
+
+// The position of the same kind and rank.
+fn like(other: &Kept, post: Post) -> Option<u32> {
+    let same = other
+        .posts
+        .iter()
+        .find(|place| place.kind == post.kind && place.rank == post.rank);
+    match same {
+        Some(place) => Some(place.at),
+        None => None,
+    }
 }

@@ -5,9 +5,10 @@ ghost use Rattle.std.specs.Prelude.{◌<◌};
 ghost use Rattle.ada_events.specs.Tasks.{task_count};
 
 use crate::Standing;
+use crate::task_set::TaskSet;
 use ada_events::{Event, Master, Outcome, TaskNo};
 use ada_kernel::Kernel;
-use ada_script::{Line, Names, Statement};
+use ada_script::{Line, Name, Names, Statement};
 use ada_tables::Layer;
 use ada_view::View;
 use std::alloc::{AllocError, Global};
@@ -28,6 +29,8 @@ pub(crate) enum Kind {
 pub(crate) struct Post {
     pub(crate) kind: Kind,
     pub(crate) at: u32,
+    /// How many of the same kind stand before it.
+    pub(crate) rank: u16,
 }
 
 /// What of a standing may still matter.
@@ -51,21 +54,41 @@ fn kind_of(event: &Event) -> Option<Kind> {
     }
 }
 
-// Whether a statement names a task.
-fn names_task(statement: &Statement, names: &Names, task: TaskNo) -> bool {
+// Puts the tasks that a statement names into a set.
+fn add_named(named: &mut TaskSet, statement: &Statement, names: &Names) {
+    if let Some(by) = speaker(statement) {
+        named.insert(names.task(by));
+    }
     match statement {
-        Statement::Create { by, under, .. } => {
-            names.task(by) == task || names.master(under) == Master::Body(task)
+        Statement::Create { under, .. } => {
+            if let Master::Body(task) = names.master(under) {
+                named.insert(task);
+            }
         }
-        Statement::Activate { by, tasks } | Statement::Abort { by, tasks } => {
-            names.task(by) == task || tasks.as_slice().iter().any(|name| names.task(name) == task)
+        Statement::Activate { tasks, .. } | Statement::Abort { tasks, .. } => {
+            for name in tasks.as_slice() {
+                named.insert(names.task(name));
+            }
         }
-        Statement::Call { by, callee, .. }
-        | Statement::CallWithin { by, callee, .. }
-        | Statement::Try { by, callee, .. } => {
-            names.task(by) == task || names.task(callee) == task
+        Statement::Call { callee, .. }
+        | Statement::CallWithin { callee, .. }
+        | Statement::Try { callee, .. } => {
+            named.insert(names.task(callee));
         }
-        Statement::Open { by, .. }
+        _ => {}
+    }
+}
+
+// The name of the task that says a statement; none of a tick.
+fn speaker(statement: &Statement) -> Option<&Name> {
+    match statement {
+        Statement::Create { by, .. }
+        | Statement::Activate { by, .. }
+        | Statement::Abort { by, .. }
+        | Statement::Call { by, .. }
+        | Statement::CallWithin { by, .. }
+        | Statement::Try { by, .. }
+        | Statement::Open { by, .. }
         | Statement::Up { by }
         | Statement::Fail { by }
         | Statement::Accept { by, .. }
@@ -74,8 +97,8 @@ fn names_task(statement: &Statement, names: &Names, task: TaskNo) -> bool {
         | Statement::Raise { by }
         | Statement::Close { by }
         | Statement::Delay { by, .. }
-        | Statement::Complete { by } => names.task(by) == task,
-        _ => false,
+        | Statement::Complete { by } => Some(by),
+        _ => None,
     }
 }
 
@@ -113,16 +136,33 @@ impl Kept {
                 kept.note(Kind::Block, at)?;
             }
         }
+        kept.rank_posts();
         Ok(kept)
     }
 
     // Notes a position, if it is new.
     fn note(&mut self, kind: Kind, at: u32) -> Result<(), AllocError> {
-        let post = Post { kind, at };
-        if !self.posts.iter().any(|other| *other == post) {
-            self.posts.push(post)?;
+        if self.rank(kind, at) == u16::MAX {
+            self.posts.push(Post { kind, at, rank: 0 })?;
         }
         Ok(())
+    }
+
+    // Ranks the positions, kind by kind, in their order.
+    fn rank_posts(&mut self) {
+        self.posts
+            .sort_unstable_by_key(|post| (post.kind as u8, post.at));
+        let mut last = None;
+        let mut rank = 0u16;
+        for post in &mut self.posts {
+            rank = if last == Some(post.kind) {
+                rank.saturating_add(1)
+            } else {
+                0
+            };
+            last = Some(post.kind);
+            post.rank = rank;
+        }
     }
 
     // Notes what a task is suspended at, what it is within, and what it accepted, if it isn't terminated.
@@ -157,15 +197,14 @@ impl Kept {
 
     /// How many positions of the same kind stand before this one; 65,535 of a position that doesn't matter.
     pub(crate) fn rank(&self, kind: Kind, at: u32) -> u16 {
-        let mut before: u16 = 0;
-        let mut is_here = false;
-        for post in &self.posts {
-            is_here = is_here || post.kind == kind && post.at == at;
-            if post.kind == kind && post.at < at {
-                before = before.saturating_add(1);
-            }
+        let post = self
+            .posts
+            .iter()
+            .find(|post| post.at == at && post.kind == kind);
+        match post {
+            Some(post) => post.rank,
+            None => u16::MAX,
         }
-        if is_here { before } else { u16::MAX }
     }
 
     /// The place of a task among those that are kept.
@@ -188,20 +227,24 @@ fn kept_tasks(
     script: &[Line],
     standing: &Standing,
 ) -> Result<Vec<TaskNo>, AllocError> {
+    let named = named_tasks(script, standing);
     let mut tasks = Vec::new(alloc);
     for number in 0..standing.kernel.tasks() {
         let task = TaskNo(number);
-        if standing.kernel.terminated(task) == Some(false) || is_named(script, standing, task) {
+        if named.contains(task) || standing.kernel.terminated(task) == Some(false) {
             tasks.push(task)?;
         }
     }
     Ok(tasks)
 }
 
-// Whether a line that is left names a task.
-fn is_named(script: &[Line], standing: &Standing, task: TaskNo) -> bool {
-    standing.left.iter().any(|place| match script.get(usize::from(*place)) {
-        Some(line) => names_task(&line.statement, &standing.names, task),
-        None => false,
-    })
+// The tasks that the lines name that are left.
+fn named_tasks(script: &[Line], standing: &Standing) -> TaskSet {
+    let mut named = TaskSet::new();
+    for place in &standing.left {
+        if let Some(line) = script.get(usize::from(*place)) {
+            add_named(&mut named, &line.statement, &standing.names);
+        }
+    }
+    named
 }

@@ -5,6 +5,7 @@ ghost use Rattle.ada_events.specs.Tasks.{task_count};
 
 use crate::Standing;
 use crate::keep::{Kept, Kind};
+use ada_events::waits::tail_due;
 use ada_events::{Choice, Event, EventTail, Master, Outcome, Patience, TaskNo};
 use ada_kernel::Kernel;
 use ada_script::{Line, Statement};
@@ -18,19 +19,27 @@ pub(crate) fn key_of(
     script: &[Line],
     standing: &Standing,
 ) -> Result<Vec<u8>, AllocError> {
-    let kept = Kept::of(alloc, script, standing)?;
-    let mut writer = Writer {
-        bytes: Vec::new(alloc),
-        kept: &kept,
-    };
+    let mut key = Vec::new(alloc);
+    write_key(&mut key, script, standing)?;
+    Ok(key)
+}
+
+/// Writes the key of a standing in place of what is there.
+pub(crate) fn write_key(
+    bytes: &mut Vec<u8>,
+    script: &[Line],
+    standing: &Standing,
+) -> Result<(), AllocError> {
+    bytes.clear();
+    let kept = Kept::of(*bytes.allocator(), script, standing)?;
+    let mut writer = Writer { bytes, kept: &kept };
     writer.moment(standing.kernel.view().moment())?;
     for place in &standing.left {
         writer.number(*place)?;
     }
     writer.number(u16::MAX)?;
     writer.declarations(script, standing)?;
-    writer.tasks(&standing.kernel)?;
-    Ok(writer.bytes)
+    writer.tasks(&standing.kernel)
 }
 
 // The number of an outcome, but for what was accepted.
@@ -55,14 +64,33 @@ fn number_of(outcome: Outcome) -> u16 {
     }
 }
 
-// Who writes a key.
-#[derive(Drop)]
-struct Writer<'a> {
-    bytes: Vec<u8>,
-    kept: &'a Kept,
+// Whether the event is a wait with an open delay alternative.
+fn is_timed_wait(event: &Event) -> bool {
+    match event {
+        Event::Waiting { tail, .. } => tail_due(tail).is_some(),
+        _ => false,
+    }
 }
 
-impl Writer<'_> {
+// How many waits with an open delay alternative stand before a position.
+fn timed_before(view: &View<'_>, kept: &Kept, at: u32) -> u16 {
+    let mut before: u16 = 0;
+    for post in &kept.posts {
+        if post.at < at && view.event(post.at).is_some_and(is_timed_wait) {
+            before = before.saturating_add(1);
+        }
+    }
+    before
+}
+
+// Who writes a key.
+#[derive(Drop)]
+struct Writer<'k, 'b> {
+    bytes: &'b mut Vec<u8>,
+    kept: &'k Kept,
+}
+
+impl Writer<'_, '_> {
     fn flag(&mut self, is_set: bool) -> Result<(), AllocError> {
         self.bytes.push(u8::from(is_set))?;
         Ok(())
@@ -254,7 +282,7 @@ impl Writer<'_> {
     ) -> Result<(), AllocError> {
         match event {
             Event::Called { .. } => self.call(event, at, is_joined),
-            Event::Waiting { .. } => self.wait(event, at),
+            Event::Waiting { .. } => self.wait(view, event, at),
             Event::Paused { due, .. } => {
                 self.number(2)?;
                 self.post(Kind::Delay, at)?;
@@ -297,7 +325,8 @@ impl Writer<'_> {
         self.due(*due)
     }
 
-    fn wait(&mut self, event: &Event, at: u32) -> Result<(), AllocError> {
+    // A wait. Only among those with an open delay alternative the order counts.
+    fn wait(&mut self, view: &View<'_>, event: &Event, at: u32) -> Result<(), AllocError> {
         let Event::Waiting {
             pick,
             choices,
@@ -308,7 +337,9 @@ impl Writer<'_> {
             return Ok(());
         };
         self.number(1)?;
-        self.post(Kind::Wait, at)?;
+        if is_timed_wait(event) {
+            self.number(timed_before(view, self.kept, at))?;
+        }
         self.moment(i64::from(*pick))?;
         for choice in choices.as_slice() {
             self.choice(*choice)?;

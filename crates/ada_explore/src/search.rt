@@ -2,12 +2,13 @@
 //! promised of it: what it tells is followed again.
 
 use crate::ahead::Ahead;
-use crate::key::key_of;
+use crate::key::write_key;
 use crate::standing::asker_at;
+use crate::task_set::TaskSet;
 use crate::turns::{may_have, picks_below};
 use crate::watch::LOOK;
-use crate::{Halt, Progress, Space, Standing, Turn, Watch, is_stuck};
-use ada_events::{Refusal, TaskNo};
+use crate::{Halt, Progress, Space, Standing, Time, Turn, Watch, is_stuck};
+use ada_events::Refusal;
 use ada_script::Line;
 use ada_waiting::next_due;
 use indexmap::IndexSet;
@@ -59,6 +60,8 @@ pub(crate) struct Search {
     keys: IndexSet<Vec<u8>>,
     /// So many bytes these have.
     bytes: u64,
+    /// The key that was written last.
+    key: Vec<u8>,
     /// Of the first states that are still to be gone on from, where they come to. The paths of the others are played
     /// again.
     waiting: VecDeque<Waiting>,
@@ -116,6 +119,7 @@ impl Search {
             steps: Vec::new(alloc),
             keys: IndexSet::new(alloc),
             bytes: 0,
+            key: Vec::new(alloc),
             waiting: VecDeque::new(alloc),
             first: None,
             stuck: 0,
@@ -146,11 +150,10 @@ impl Search {
     // Meets the beginning, to which no step leads.
     fn begin(&mut self, space: Space<'_>) -> Result<(), Halt> {
         let standing = Standing::new(space)?;
-        let turn = Turn {
-            place: u16::MAX,
-            pick: None,
+        let step = Step {
+            from: 0,
+            turn: Turn::Time,
         };
-        let step = Step { from: 0, turn };
         self.meet(space.script.lines(), standing, step)?;
         Ok(())
     }
@@ -258,7 +261,9 @@ impl Search {
         match standing.perform(script, step.turn) {
             Ok(None) => self.lead(script, standing, step),
             Ok(Some(cause)) => {
-                self.note_refused(step.turn.place, cause, after)?;
+                if let Some(place) = step.turn.place() {
+                    self.note_refused(place, cause, after)?;
+                }
                 self.lead(script, standing, step)
             }
             Err(Halt::Limit(cause)) => {
@@ -297,17 +302,24 @@ impl Search {
 
     // The number of a state, which is noted if it is new.
     fn meet(&mut self, script: &[Line], standing: Standing, step: Step) -> Result<u32, Halt> {
-        let key = key_of(self.alloc, script, &standing).map_err(|_| Halt::Memory)?;
-        let bytes = key.len() as u64;
-        let (state, is_new) = self.keys.insert_full(key).map_err(|_| Halt::Memory)?;
-        let state = u32::try_from(state).map_err(|_| Halt::Memory)?;
-        if is_new {
-            self.bytes = self.bytes.saturating_add(bytes);
-            self.steps.push(step).map_err(|_| Halt::Memory)?;
-            self.note_stuck(&standing, state);
-            self.keep(state, standing)?;
+        write_key(&mut self.key, script, &standing).map_err(|_| Halt::Memory)?;
+        if let Some(state) = self.keys.get_index_of(self.key.as_slice()) {
+            return u32::try_from(state).map_err(|_| Halt::Memory);
         }
+        let state = u32::try_from(self.keys.len()).map_err(|_| Halt::Memory)?;
+        self.note_key()?;
+        self.steps.push(step).map_err(|_| Halt::Memory)?;
+        self.note_stuck(&standing, state);
+        self.keep(state, standing)?;
         Ok(state)
+    }
+
+    // Notes the key that was written last, of a new state.
+    fn note_key(&mut self) -> Result<(), Halt> {
+        let key = Vec::from_slice(self.alloc, &self.key).map_err(|_| Halt::Memory)?;
+        self.bytes = self.bytes.saturating_add(key.len() as u64);
+        self.keys.insert(key).map_err(|_| Halt::Memory)?;
+        Ok(())
     }
 
     // Keeps where a new state comes to, if there is room.
@@ -419,15 +431,15 @@ fn is_short(standing: &Standing) -> bool {
     !standing.kernel.finished() && !is_stuck(&standing.kernel)
 }
 
-// What may come next: the next line of each task that runs, with each of its picks, or else the first tick.
+// What may come next: the next line of each task that runs, with each of its picks; or else time passes.
 fn choices(space: Space<'_>, standing: &Standing) -> Result<Vec<Turn>, Halt> {
     let script = space.script.lines();
     let mut choices = Vec::new(space.alloc);
-    let mut spoken = Spoken::new();
+    let mut spoken = TaskSet::new();
     let mut tick = None;
     for place in &standing.left {
         match asker_at(script, &standing.names, *place) {
-            Some(task) if spoken.is_first(task) => {
+            Some(task) if spoken.insert(task) => {
                 if standing.kernel.running(task) == Some(true) {
                     add_turns(space, &mut choices, *place)?;
                 }
@@ -436,48 +448,39 @@ fn choices(space: Space<'_>, standing: &Standing) -> Result<Vec<Turn>, Halt> {
             None => tick = tick.or(Some(*place)),
         }
     }
-    if let (true, Some(place)) = (choices.is_empty(), tick) {
-        add_turns(space, &mut choices, place)?;
+    if choices.is_empty() {
+        add_time(space, standing, &mut choices, tick)?;
     }
     Ok(choices)
 }
 
+// Adds that time passes, where no task may say anything: by the first tick that is left, or late.
+fn add_time(
+    space: Space<'_>,
+    standing: &Standing,
+    choices: &mut Vec<Turn>,
+    tick: Option<u16>,
+) -> Result<(), Halt> {
+    match (space.freedom.time, tick) {
+        (Time::ByTicks, Some(place)) => add_turns(space, choices, place),
+        (Time::Late, _) if next_due(&standing.kernel).is_some() => {
+            choices.push(Turn::Time).map_err(|_| Halt::Memory)
+        }
+        _ => Ok(()),
+    }
+}
+
 // Adds the line at a place as it is written, and with each other pick that it may have.
 fn add_turns(space: Space<'_>, choices: &mut Vec<Turn>, place: u16) -> Result<(), Halt> {
-    let written = Turn { place, pick: None };
+    let written = Turn::Line { place, pick: None };
     choices.push(written).map_err(|_| Halt::Memory)?;
     let script = space.script.lines();
-    for pick in 0..picks_below(space.picks, script, place) {
-        let turn = Turn {
-            place,
-            pick: Some(pick),
-        };
-        if may_have(space.picks, script, turn) {
+    for pick in 0..picks_below(space.freedom.picks, script, place) {
+        let pick = Some(pick);
+        if may_have(space.freedom.picks, script, place, pick) {
+            let turn = Turn::Line { place, pick };
             choices.push(turn).map_err(|_| Halt::Memory)?;
         }
     }
     Ok(())
-}
-
-/// The tasks whose next line was met, a bit each.
-#[derive(Drop)]
-struct Spoken {
-    bits: [u64; 4],
-}
-
-impl Spoken {
-    fn new() -> Self {
-        Spoken { bits: [0; 4] }
-    }
-
-    // Whether a task's line is the first that was met of it.
-    fn is_first(&mut self, task: TaskNo) -> bool {
-        let Some(bits) = self.bits.get_mut(usize::from(task.0 / 64)) else {
-            return false;
-        };
-        let bit = 1 << (task.0 % 64);
-        let is_first = *bits & bit == 0;
-        *bits |= bit;
-        is_first
-    }
 }

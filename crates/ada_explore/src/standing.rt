@@ -4,21 +4,22 @@ ghost use Rattle.std.specs.Prelude.{IfOk, OnOk, option_map, true, is_some};
 ghost use Rattle.std.specs.Option.{option_and_then};
 ghost use Rattle.ada_events.specs.declared.names.TaskNo.{TaskNo as Number};
 ghost use Rattle.ada_events.specs.Asks.{asker as asks};
+ghost use Rattle.ada_events.specs.Tasks.{moment};
 ghost use Rattle.ada_events.specs.declared.refusal.Refusal.TheVariants.{OutOfMemory};
 ghost use Rattle.ada_statements.specs.Binding.{request_of};
 ghost use Rattle.ada_statements.specs.Scope.{Scope};
 ghost use Rattle.ada_script.specs.Script.{scope_of};
 ghost use Rattle.ada_laws.specs.Unlimited.{is_limit};
 ghost use Rattle.ada_schedules.specs.Schedules.{beginning, Acts};
-ghost use Rattle.ada_explore.specs.declared.turns.Picks.{Picks as PicksValue};
-ghost use Rattle.ada_explore.specs.Picks as picking;
+ghost use Rattle.ada_explore.specs.declared.turns.Freedom.{Freedom as FreedomValue};
 ghost use Rattle.ada_explore.specs.Scripts as scripts;
 
 use crate::turns::{may_have, with_pick};
-use crate::{Picks, Space, Turn};
+use crate::{Freedom, Space, Time, Turn};
 use ada_events::{Refusal, Request, TaskNo};
 use ada_kernel::Kernel;
 use ada_script::{Line, Names, Statement, request};
+use ada_waiting::next_due;
 use std::alloc::Global;
 use thiserror::Error;
 
@@ -36,7 +37,7 @@ pub struct Standing {
 /// Why a schedule doesn't go on by a choice.
 #[derive(Clone, Copy, Debug, PartialEq, Eq, Error)]
 pub enum Halt {
-    /// The line may not come next, or not with this pick.
+    /// The line may not come next, or not with this pick, or time may not pass.
     #[error("not the next line of a task that runs, or not its pick")]
     NoChoice,
     /// A limit of the kernel was reached: of tasks, entries or events.
@@ -101,29 +102,20 @@ fn request_at(script: &[Line], names: &Names, place: u16) -> Option<Request>
     }
 }
 
-// What a turn asks for, if it may come.
-fn request_of(script: &[Line], names: &Names, turn: Turn) -> Option<Request>
-    ensures { result ≡ option_map (picking.with_pick turn.pick)
-        (scripts.request_at script.now names.now turn.place) }
-{
-    match request_at(script, names, turn.place) {
-        Some(request) => Some(with_pick(turn.pick, request)),
-        None => None,
-    }
-}
-
-// Whether the line at a place asks for something, and shows no attribute.
+// Whether the line at a place is searched: it asks for something, and isn't a tick if time passes late.
 #[tactic(auto, unfolding(ada_statements::specs::Binding::is_show))]
-fn is_asking(script: &[Line], place: u16) -> bool
-    ensures { (names : Scope) → result ≡ is_some (scripts.request_at script.now names place) }
+fn is_searched(script: &[Line], time: Time, place: u16) -> bool
+    ensures { (names : Scope) → result
+        ≡ scripts.is_searched time (scripts.request_at script.now names place) }
 {
     match script.get(usize::from(place)) {
-        Some(line) => !matches!(
-            line.statement,
+        Some(line) => match line.statement {
             Statement::ShowCallable { .. }
-                | Statement::ShowTerminated { .. }
-                | Statement::ShowCount { .. }
-        ),
+            | Statement::ShowTerminated { .. }
+            | Statement::ShowCount { .. } => false,
+            Statement::Tick { .. } => time == Time::ByTicks,
+            _ => true,
+        },
         None => false,
     }
 }
@@ -144,10 +136,10 @@ impl Standing {
     /// The beginning of all schedules of a script.
     pub fn new(space: Space<'_>) -> Result<Self, Halt>
         ensures { IfOk result (λ new. scripts.at new.kernel new.left.items new.names
-            ≡ beginning (scripts.scripted space.entry.picks space.entry.script.now)) }
+            ≡ beginning (scripts.scripted space.entry.freedom space.entry.script.now)) }
     {
         let names = space.script.names().map_err(|_| Halt::Memory)?;
-        let left = asking(space.alloc, space.script.lines(), &names)?;
+        let left = asking(space.alloc, space.script.lines(), space.freedom, &names)?;
         let kernel = Kernel::new(space.alloc).map_err(|_| Halt::Memory)?;
         Ok(Standing {
             kernel,
@@ -169,6 +161,13 @@ impl Standing {
             left,
             names,
         })
+    }
+
+    /// The moment to which it has come, in milliseconds from the beginning.
+    pub fn moment(&self) -> i64
+        ensures { result ≡ moment self.now.kernel }
+    {
+        self.kernel.view().moment()
     }
 
     // The first of the lines that are left at which this task asks; without a task the first tick.
@@ -256,15 +255,15 @@ fn keep(places: &mut Vec<u16>, place: u16, is_kept: bool) -> Result<(), Halt>
     Ok(())
 }
 
-// The places of the lines that ask for something.
-fn asking(alloc: Global, script: &[Line], names: &Names) -> Result<Vec<u16>, Halt>
+// The places of the lines that are searched.
+fn asking(alloc: Global, script: &[Line], freedom: Freedom, names: &Names) -> Result<Vec<u16>, Halt>
     requires { names.now ≡ scope_of script.now }
-    ensures { IfOk result (λ places. places.items ≡ scripts.asking script.now) }
+    ensures { IfOk result (λ places. places.items ≡ scripts.asking freedom script.now) }
 {
     let mut places = Vec::new(alloc);
     for place in 0..script.len() {
         let place = short(place)?;
-        keep(&mut places, place, is_asking(script, place))?;
+        keep(&mut places, place, is_searched(script, freedom.time, place))?;
     }
     Ok(places)
 }
@@ -274,6 +273,16 @@ fn take_out(left: &mut Vec<u16>, place: u16)
     ensures { left.new.items ≡ scripts.without place left.old.items }
 {
     left.retain(|other| *other != place);
+}
+
+// The lines that are left after a turn.
+fn take(left: &mut Vec<u16>, turn: Turn)
+    ensures { left.new.items ≡ scripts.left_after turn left.old.items }
+{
+    match turn {
+        Turn::Line { place, .. } => take_out(left, place),
+        Turn::Time => {}
+    }
 }
 
 // Whether the cause is one of the rules, and no limit of tasks, entries or events, nor want of memory.
@@ -291,36 +300,79 @@ fn of_the_rules(cause: Refusal) -> Result<(), Halt>
 }
 
 impl Standing {
-    // Binds the names of the line at a place, whose event stands at a position.
-    fn bind(&mut self, script: &[Line], place: u16, at: u32, made: TaskNo)
+    /// Whether a turn may be taken: its line may come, and may have its pick; or no task may say anything, and time
+    /// passes late.
+    pub fn may_take(&self, script: &[Line], freedom: Freedom, turn: Turn) -> bool
+        ensures { result ≡ scripts.may_take freedom script.now self.now.kernel
+            (scripts.rest self.now.left.items self.now.names) turn }
+    {
+        match turn {
+            Turn::Line { place, pick } => {
+                self.may_come(script, place) && may_have(freedom.picks, script, place, pick)
+            }
+            Turn::Time => freedom.time == Time::Late && self.all_silent(script),
+        }
+    }
+
+    // What a turn asks for, if it may be taken.
+    fn request_in(&self, script: &[Line], turn: Turn) -> Option<Request>
+        ensures { result ≡ scripts.request_in script.now self.now.kernel
+            (scripts.rest self.now.left.items self.now.names) turn }
+    {
+        match turn {
+            Turn::Line { place, pick } => {
+                let request = request_at(script, &self.names, place)?;
+                Some(with_pick(pick, request))
+            }
+            Turn::Time => {
+                let now = next_due(&self.kernel)?;
+                Some(Request::Tick { now })
+            }
+        }
+    }
+
+    // Whether a turn asks for something.
+    pub(crate) fn asks(&self, script: &[Line], freedom: Freedom, turn: Turn) -> bool
+        ensures { result ≡ is_some (scripts.asked_by freedom script.now self.now.kernel
+            (scripts.rest self.now.left.items self.now.names) turn) }
+    {
+        self.may_take(script, freedom, turn) && self.request_in(script, turn).is_some()
+    }
+
+    // Binds the names of a turn's line, whose event stands at a position.
+    fn bind(&mut self, script: &[Line], turn: Turn, at: u32, made: TaskNo)
         ensures kernel { self.new.kernel ≡ self.old.kernel }
         ensures left { self.new.left.items ≡ self.old.left.items }
-        ensures names { self.new.names ≡ scripts.bound_so script.now self.old.names place at made }
+        ensures names { self.new.names
+            ≡ scripts.names_after script.now self.old.names turn at made }
     {
-        if let Some(line) = script.get(usize::from(place)) {
+        let line = match turn {
+            Turn::Line { place, .. } => script.get(usize::from(place)),
+            Turn::Time => None,
+        };
+        if let Some(line) = line {
             self.names.bind(&line.statement, at, made);
         }
     }
 
     // Makes the request of a turn. After an `Err` the schedule goes on from nowhere.
     pub(crate) fn perform(&mut self, script: &[Line], turn: Turn) -> Result<Option<Refusal>, Halt>
-        ensures { OnOk result ((picks : PicksValue)
-            → scripts.may_come script.now self.old.kernel
-            (scripts.rest self.old.left.items self.old.names) turn.place ≡ true
-            → picking.may_have picks script.now turn.place turn.pick ≡ true
-            → Acts (scripts.scripted picks script.now) turn
+        ensures { OnOk result ((freedom : FreedomValue)
+            → scripts.may_take freedom script.now self.old.kernel
+            (scripts.rest self.old.left.items self.old.names) turn ≡ true
+            → Acts (scripts.scripted freedom script.now) turn
             (scripts.at self.old.kernel self.old.left.items self.old.names)
             (scripts.at self.new.kernel self.new.left.items self.new.names)) }
     {
-        let Some(request) = request_of(script, &self.names, turn) else {
+        let Some(request) = self.request_in(script, turn) else {
             return Err(Halt::NoChoice);
         };
         let made = TaskNo(self.kernel.tasks());
         let answer = self.kernel.step(request);
-        take_out(&mut self.left, turn.place);
+        take(&mut self.left, turn);
         match answer {
             Ok(at) => {
-                self.bind(script, turn.place, at, made);
+                self.bind(script, turn, at, made);
                 Ok(None)
             }
             Err(cause) => {
@@ -330,19 +382,19 @@ impl Standing {
         }
     }
 
-    /// Says the line of a turn, which is accepted or refused. After an `Err` the schedule goes on from nowhere: the
-    /// line may not come next, or not with this pick, a limit was reached, or memory was refused.
+    /// Takes a turn: its request is accepted or refused. After an `Err` the schedule goes on from nowhere: the turn may
+    /// not be taken, a limit was reached, or memory was refused.
     pub fn say(
         &mut self,
         script: &[Line],
-        picks: Picks,
+        freedom: Freedom,
         turn: Turn,
     ) -> Result<Option<Refusal>, Halt>
-        ensures { OnOk result (Acts (scripts.scripted picks script.now) turn
+        ensures { OnOk result (Acts (scripts.scripted freedom script.now) turn
             (scripts.at self.old.kernel self.old.left.items self.old.names)
             (scripts.at self.new.kernel self.new.left.items self.new.names)) }
     {
-        if self.may_come(script, turn.place) && may_have(picks, script, turn) {
+        if self.may_take(script, freedom, turn) {
             self.perform(script, turn)
         } else {
             Err(Halt::NoChoice)

@@ -7,13 +7,28 @@ use ada_events::{Request, Tail};
 use ada_script::{Line, Script, Statement};
 use std::alloc::Global;
 
-/// One step of a schedule: a line comes, as it is written or with another pick.
+/// One step of a schedule.
 #[derive(Clone, Copy, Debug, PartialEq, Eq)]
-pub struct Turn {
-    /// The place of the line in the script, from 0.
-    pub place: u16,
-    /// The pick of its selective wait, if that isn't the one that is written.
-    pub pick: Option<u32>,
+pub enum Turn {
+    /// A line comes, as it is written or with another pick.
+    Line {
+        /// The place of the line in the script, from 0.
+        place: u16,
+        /// The pick of its selective wait, if that isn't the one that is written.
+        pick: Option<u32>,
+    },
+    /// Time passes, to the first moment for which a task waits (9.6).
+    Time,
+}
+
+impl Turn {
+    /// The place of its line; none if time passes.
+    pub fn place(self) -> Option<u16> {
+        match self {
+            Turn::Line { place, .. } => Some(place),
+            Turn::Time => None,
+        }
+    }
 }
 
 /// Which picks selective waits have.
@@ -25,12 +40,28 @@ pub enum Picks {
     All,
 }
 
+/// How time passes, if no task can act.
+#[derive(Clone, Copy, Debug, PartialEq, Eq)]
+pub enum Time {
+    /// By the ticks that are written, in their order.
+    ByTicks,
+    /// To the first moment for which a task waits. The ticks that are written are left out.
+    Late,
+}
+
+/// What schedules may choose beside the order of lines.
+#[derive(Clone, Copy, Debug, PartialEq, Eq)]
+pub struct Freedom {
+    pub picks: Picks,
+    pub time: Time,
+}
+
 /// A script whose schedules are looked at.
 #[derive(Clone, Copy)]
 pub struct Space<'a> {
     pub alloc: Global,
     pub script: &'a Script,
-    pub picks: Picks,
+    pub freedom: Freedom,
 }
 
 // How many delay alternatives a selective wait has.
@@ -87,13 +118,13 @@ pub(crate) fn picks_below(picks: Picks, script: &[Line], place: u16) -> u32
 }
 
 /// Whether the line at a place may have this pick.
-pub(crate) fn may_have(picks: Picks, script: &[Line], turn: Turn) -> bool
-    ensures { result ≡ picking.may_have picks script.now turn.place turn.pick }
+pub(crate) fn may_have(picks: Picks, script: &[Line], place: u16, pick: Option<u32>) -> bool
+    ensures { result ≡ picking.may_have picks script.now place pick }
 {
-    let Some(pick) = turn.pick else {
+    let Some(pick) = pick else {
         return true;
     };
-    match (picks, script.get(usize::from(turn.place))) {
+    match (picks, script.get(usize::from(place))) {
         (Picks::All, Some(line)) => could_matter(&line.statement, pick),
         _ => false,
     }

@@ -1,7 +1,8 @@
 //! What a search counts, by hand, and how it ends early.
 
+use crate::plain::AS_WRITTEN;
 use ada_events::Refusal;
-use ada_explore::{End, Finding, Halt, Picks, Progress, Refused, Space, Unwatched, Watch, explore};
+use ada_explore::{End, Finding, Halt, Progress, Refused, Space, Unwatched, Watch, explore};
 use ada_script::read;
 use std::alloc::Global;
 use std::test::Fail;
@@ -14,6 +15,17 @@ Ann: up
 Ann: end
 main: complete
 Ann: complete
+";
+
+// Three lines come one after another, then two of each server in any order: three states and nine, and three steps and
+// twelve. Which server waits first makes no state of its own.
+static TWO_SERVERS: &[u8] = b"main: create Ann under main Ask
+main: create Bob under main Ask
+main: activate Ann Bob
+Ann: up
+Bob: up
+Ann: accept Ask
+Bob: accept Ask
 ";
 
 // Each task has all the entries that there are.
@@ -42,7 +54,7 @@ fn found_by<W: Watch>(
     let space = Space {
         alloc,
         script: &script,
-        picks: Picks::AsWritten,
+        freedom: AS_WRITTEN,
     };
     explore(space, most, watch)
 }
@@ -71,5 +83,12 @@ fn ends_early(rt: HostRuntime) -> Result<(), Fail> {
     assert_eq!(&rt; (ended.end, ended.states, ended.steps), (End::Ended, 1, 0));
     let limit = found_by(rt.alloc(), LIMIT, u32::MAX, &mut Unwatched)?;
     assert_eq!(&rt; limit.end, End::Limit(Refusal::TooManySlots));
+    Ok(())
+}
+
+#[test]
+fn counts_waits_in_either_order_once(rt: HostRuntime) -> Result<(), Fail> {
+    let found = found_by(rt.alloc(), TWO_SERVERS, u32::MAX, &mut Unwatched)?;
+    assert_eq!(&rt; (found.states, found.steps), (12, 15));
     Ok(())
 }

@@ -1,6 +1,7 @@
 //! Whether no schedule of a script gets stuck, of scripts whose schedules were gone through by hand.
 
-use ada_explore::{Halt, Picks, Space, Unwatched, covered_by};
+use crate::plain::AS_WRITTEN;
+use ada_explore::{Halt, Space, Unwatched, covered_by};
 use ada_script::read;
 use std::alloc::{AllocError, Global};
 use std::test::Fail;
@@ -88,7 +89,7 @@ fn covered_in(alloc: Global, text: &[u8], most: u32) -> Result<Option<u32>, Halt
     let space = Space {
         alloc,
         script: &script,
-        picks: Picks::AsWritten,
+        freedom: AS_WRITTEN,
     };
     covered_by(space, most, &mut Unwatched)
 }

@@ -1,7 +1,7 @@
 //! What is found of scripts some of whose schedules get stuck.
 
-use crate::plain::ends_of;
-use ada_explore::{End, Halt, Picks, Space, Unwatched, explore};
+use crate::plain::{AS_WRITTEN, ends_of};
+use ada_explore::{End, Halt, Space, Unwatched, explore};
 use ada_script::read;
 use std::alloc::Global;
 use std::process::Abort;
@@ -46,7 +46,7 @@ fn found_in(alloc: Global, text: &[u8]) -> Result<(Option<usize>, Option<usize>)
     let space = Space {
         alloc,
         script: &script,
-        picks: Picks::AsWritten,
+        freedom: AS_WRITTEN,
     };
     let found = explore(space, u32::MAX, &mut Unwatched)?;
     if found.end != End::AllSeen {

@@ -8,6 +8,8 @@ mod covering;
 #[cfg(test)]
 mod finding;
 #[cfg(test)]
+mod late;
+#[cfg(test)]
 mod picks;
 #[cfg(test)]
 mod plain;

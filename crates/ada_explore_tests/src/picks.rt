@@ -1,8 +1,8 @@
 //! What is found of scripts whose selective waits may have other picks than those that are written.
 
-use crate::plain::{Ends, ends_of};
+use crate::plain::{AS_WRITTEN, Ends, ends_of};
 use crate::random::finds;
-use ada_explore::{Halt, Picks, Space, Turn, Unwatched, explore};
+use ada_explore::{Freedom, Halt, Picks, Space, Time, Turn, Unwatched, explore};
 use ada_script::read;
 use ada_test_requests::Dice;
 use std::alloc::{AllocError, Global};
@@ -46,7 +46,10 @@ fn stuck_in(alloc: Global, text: &[u8], picks: Picks) -> Result<Option<Vec<Turn>
     let space = Space {
         alloc,
         script: &script,
-        picks,
+        freedom: Freedom {
+            picks,
+            time: Time::ByTicks,
+        },
     };
     let found = explore(space, u32::MAX, &mut Unwatched)?;
     if found.stuck.is_some() == found.covered.is_some() {
@@ -63,7 +66,7 @@ fn finds_the_pick_that_gets_stuck(rt: HostRuntime) -> Result<(), Fail> {
         return Ok(());
     };
     assert_eq!(&rt; path.len(), 16);
-    let select = Turn {
+    let select = Turn::Line {
         place: 13,
         pick: Some(1),
     };
@@ -138,7 +141,7 @@ fn ends_of_all(alloc: Global, text: &str, variants: u32) -> Result<Ends, Halt> {
         let space = Space {
             alloc,
             script: &script,
-            picks: Picks::AsWritten,
+            freedom: AS_WRITTEN,
         };
         all = all.with(ends_of(space, MOST)?);
     }
@@ -166,7 +169,10 @@ fn first_differing(alloc: Global, dice: &mut Dice) -> Result<String, Halt> {
         let space = Space {
             alloc,
             script: &script,
-            picks: Picks::All,
+            freedom: Freedom {
+                picks: Picks::All,
+                time: Time::ByTicks,
+            },
         };
         if !finds(space, ends)? {
             return Ok(with_picks);

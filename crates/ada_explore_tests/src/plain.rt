@@ -1,11 +1,17 @@
 //! A plain search: it goes through each schedule to its end, and takes no two states for the same.
 
 use ada_events::TaskNo;
-use ada_explore::{Halt, Space, Standing, Turn, follow, is_stuck};
+use ada_explore::{Freedom, Halt, Picks, Space, Standing, Time, Turn, follow, is_stuck};
 use ada_kernel::Kernel;
 use ada_script::{Line, Statement};
 use ada_waiting::next_due;
 use std::alloc::Global;
+
+/// Picks and ticks are those that are written.
+pub const AS_WRITTEN: Freedom = Freedom {
+    picks: Picks::AsWritten,
+    time: Time::ByTicks,
+};
 
 /// What schedules come to.
 #[derive(Clone, Copy, Debug, PartialEq, Eq)]
@@ -16,23 +22,23 @@ pub struct Ends {
     pub stops: bool,
 }
 
-/// What the schedules of a script come to with the picks that are written. It has at most so many, with all that begin
-/// them.
+/// What the schedules of a script come to with the picks that are written, and time as is said. It has at most so many,
+/// with all that begin them.
 pub fn ends_of(space: Space<'_>, most: u32) -> Result<Ends, Halt> {
     let mut ends = Ends {
         stuck: None,
         stops: false,
     };
-    let (alloc, script) = (space.alloc, space.script.lines());
-    let mut open = Vec::new(alloc);
-    open.push(Vec::new(alloc)).map_err(|_| Halt::Memory)?;
+    let script = space.script.lines();
+    let mut open = Vec::new(space.alloc);
+    open.push(Vec::new(space.alloc)).map_err(|_| Halt::Memory)?;
     for _ in 0..most {
         let Some(path) = open.pop() else {
             return Ok(ends);
         };
         let standing = follow(space, &path)?;
         let met = open.len();
-        go_on(alloc, script, &standing, &path, &mut open)?;
+        go_on(space, &standing, &path, &mut open)?;
         if is_stuck(&standing.kernel) {
             ends.stuck = Some(shorter(ends.stuck, path.len()));
         } else if open.len() == met && stops(script, &standing) {
@@ -63,29 +69,37 @@ fn shorter(shortest: Option<usize>, length: usize) -> usize {
     }
 }
 
-// Puts each schedule that has one line more to those that are open.
+// Puts each schedule that has one turn more to those that are open. Time passes late where no line may come.
 fn go_on(
-    alloc: Global,
-    script: &[Line],
+    space: Space<'_>,
     standing: &Standing,
     path: &[Turn],
     open: &mut Vec<Vec<Turn>>,
 ) -> Result<(), Halt> {
+    let met = open.len();
     for place in &standing.left {
-        if standing.may_come(script, *place) {
-            open.push(longer(alloc, path, *place)?)
+        if standing.may_come(space.script.lines(), *place) {
+            let turn = Turn::Line {
+                place: *place,
+                pick: None,
+            };
+            open.push(longer(space.alloc, path, turn)?)
                 .map_err(|_| Halt::Memory)?;
         }
+    }
+    let is_due = next_due(&standing.kernel).is_some();
+    if space.freedom.time == Time::Late && open.len() == met && is_due {
+        open.push(longer(space.alloc, path, Turn::Time)?)
+            .map_err(|_| Halt::Memory)?;
     }
     Ok(())
 }
 
-fn longer(alloc: Global, path: &[Turn], place: u16) -> Result<Vec<Turn>, Halt> {
+fn longer(alloc: Global, path: &[Turn], turn: Turn) -> Result<Vec<Turn>, Halt> {
     let mut longer = Vec::new(alloc);
     for other in path {
         longer.push(*other).map_err(|_| Halt::Memory)?;
     }
-    let turn = Turn { place, pick: None };
     longer.push(turn).map_err(|_| Halt::Memory)?;
     Ok(longer)
 }

@@ -1,7 +1,7 @@
 //! Small random scripts, of which the search finds what a plain one finds.
 
-use crate::plain::{Ends, ends_of};
-use ada_explore::{Halt, Picks, Space, Unwatched, explore};
+use crate::plain::{AS_WRITTEN, Ends, ends_of};
+use ada_explore::{Freedom, Halt, Space, Unwatched, explore};
 use ada_script::read;
 use ada_test_requests::Dice;
 use std::alloc::{AllocError, Global};
@@ -79,8 +79,8 @@ pub fn finds(space: Space<'_>, ends: Ends) -> Result<bool, Halt> {
     Ok(stuck == ends.stuck && found.stopped.is_some() == stops && found.covered.is_some() == none)
 }
 
-// The first script of these of which the search finds something else, and no text if there is none.
-fn first_differing(alloc: Global, dice: &mut Dice) -> Result<String, Halt> {
+/// The first script of these of which the search finds something else, and no text if there is none.
+pub fn first_differing(alloc: Global, dice: &mut Dice, freedom: Freedom) -> Result<String, Halt> {
     let mut tried = 0u32;
     for _ in 0..u16::MAX {
         if tried == SCRIPTS {
@@ -91,7 +91,7 @@ fn first_differing(alloc: Global, dice: &mut Dice) -> Result<String, Halt> {
         let space = Space {
             alloc,
             script: &script,
-            picks: Picks::AsWritten,
+            freedom,
         };
         match ends_of(space, MOST) {
             Err(Halt::TooLong) => {}
@@ -104,7 +104,7 @@ fn first_differing(alloc: Global, dice: &mut Dice) -> Result<String, Halt> {
 }
 
 fn assert_alike<R: Abort + AllocGlobal>(rt: &R, seed: u64) -> Result<(), Fail> {
-    let differing = first_differing(rt.alloc(), &mut Dice::new(seed))?;
+    let differing = first_differing(rt.alloc(), &mut Dice::new(seed), AS_WRITTEN)?;
     assert_eq!(rt; differing.as_str(), "");
     Ok(())
 }

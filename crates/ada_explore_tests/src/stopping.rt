@@ -1,6 +1,7 @@
 //! What is found of scripts after some of whose schedules tasks are held up for good, though others aren't.
 
-use ada_explore::{Halt, Picks, Space, Stop, Unwatched, explore};
+use crate::plain::AS_WRITTEN;
+use ada_explore::{Halt, Space, Stop, Unwatched, explore};
 use ada_script::read;
 use std::alloc::Global;
 use std::test::Fail;
@@ -55,7 +56,7 @@ fn stop_in(alloc: Global, text: &[u8]) -> Result<Option<Stop>, Halt> {
     let space = Space {
         alloc,
         script: &script,
-        picks: Picks::AsWritten,
+        freedom: AS_WRITTEN,
     };
     let found = explore(space, u32::MAX, &mut Unwatched)?;
     if found.stuck.is_some() || found.stopped.is_some() == found.covered.is_some() {
@@ -71,7 +72,7 @@ fn finds_who_stops(rt: HostRuntime) -> Result<(), Fail> {
         assert!(rt; false);
         return Ok(());
     };
-    assert!(rt; stop.path.iter().map(|turn| turn.place).eq(0..7));
+    assert!(rt; stop.path.iter().filter_map(|turn| turn.place()).eq(0..7));
     assert_eq!(&rt; stop.lines.as_slice(), [8, 9].as_slice());
     Ok(())
 }

@@ -23,6 +23,6 @@ mod Began
 mod Ends
 mod Callers
 mod Shown
-mod waits
+pub mod waits
 mod Timely
 mod Compared

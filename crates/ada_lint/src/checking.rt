@@ -7,7 +7,9 @@ use crate::finding::{Finding, Kind};
 use crate::outside::write_outside;
 use crate::words::{Word, words_of};
 use ada_script::cursor::{Lines, Words};
-use ada_script::{Cause, Names, Statement, check_line, is_name, is_skipped, read_words};
+use ada_script::{
+    Cause, MOST_LINES, Names, Statement, check_line, is_name, is_skipped, read_words,
+};
 use std::alloc::{AllocError, Global};
 
 /// How often a line is repaired before it is given up.
@@ -52,7 +54,7 @@ struct Checker {
 impl Checker {
     // Checks a line.
     fn check(&mut self, number: u32, line: &[u8]) -> Result<(), Cause> {
-        if let Err(cause) = check_line(number, line) {
+        if let Err(cause) = check_line(MOST_LINES, number, line) {
             self.find_outside(number, line, cause)?;
             return self.take_plain(number, line);
         }

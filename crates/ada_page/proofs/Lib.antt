@@ -1,2 +1,5 @@
 pub mod Doings
+pub mod Rising
+pub mod Reasoned
+pub mod Queueing
 pub mod Showing

@@ -1,2 +1,3 @@
 pub mod Standing
 pub mod Shows
+pub mod internal

@@ -1,8 +1,12 @@
--- What stands in a journal: what each task does, and what can let it go on.
-use Rattle.std.specs.Prelude.{◌≡◌, ℕ, List, Some, length, slice_get}
+-- What stands in a journal: what each task does, who waits at which entry, and what can let it go on.
+use Rattle.std.specs.Prelude.{◌≡◌, ℕ, Bool, List, Some, length, slice_get}
+use Rattle.std.specs.List.{filter}
 use Rattle.ada_events.specs.declared.event.Event.{Event}
+use Rattle.ada_events.specs.declared.names.Entry.{Entry}
+use Rattle.ada_events.specs.Search.{is_some_and, event_at}
 use Rattle.ada_events.specs.Tasks.{task_count}
 use Rattle.ada_events.specs.Phases.{is_running}
+use Rattle.ada_events.specs.Calls.{is_call_of, queue}
 use Rattle.ada_events.specs.Nests as nests
 use Rattle.ada_waiting.specs.Reasons.{reason_of}
 use Rattle.ada_waiting.specs.Standstill.{due_of, verdict_of}
@@ -21,7 +25,16 @@ pub record AreDoings (journal : List Event) (doings : List Doing) : Type 0 where
   pub all : length doings ≡ task_count journal
   pub each : (task : ℕ) (doing : Doing) → slice_get doings task ≡ Some doing → IsDoing journal task doing
 
--- that, and what can let the journal go on
+-- the event at a position calls an entry of a task
+abbrev pub is_call_at : List Event → ℕ → Entry → ℕ → Bool
+is_call_at journal task entry position = is_some_and (event_at journal position) (is_call_of task entry)
+
+-- of all calls those of an entry are its queue, in its order
+abbrev pub AreQueued : List Event → List ℕ → Type 0
+AreQueued journal calls = (task : ℕ) (entry : Entry) → filter (is_call_at journal task entry) calls ≡ queue journal task entry
+
+-- what each task does, which calls stand in queues, and what can let the journal go on
 pub record IsStanding (journal : List Event) (standing : Standing) : Type 0 where
   pub doings : AreDoings journal standing.doings.items
+  pub queued : AreQueued journal standing.queued.items
   pub verdict : standing.verdict ≡ verdict_of journal

@@ -1,7 +1,6 @@
 //! Plays as one document.
 
-use crate::moments::show;
-use crate::rows::write_rows;
+use crate::moments::{Shown, show};
 use crate::texts::put_quoted;
 use ada_lint::finding::{Finding, Kind};
 use ada_lint::review::{Review, review_of};
@@ -24,40 +23,63 @@ pub struct Document {
     pub is_faulty: bool,
 }
 
+/// A play, and what was found in its script. Of a script with a faulty line those before the first one were played.
+#[derive(Drop)]
+pub struct Played {
+    pub review: Review,
+    pub shown: Shown,
+}
+
+impl Played {
+    /// Plays a script. An `Err` is `Memory`.
+    pub fn of(alloc: Global, play: &Play<'_>) -> Result<Self, RunFault> {
+        let review = review_of(alloc, play.text).map_err(|_| RunFault::Memory)?;
+        let text = match review.fault {
+            Some(fault) => lines_before(play.text, fault.line),
+            None => play.text,
+        };
+        let script = read_script(alloc, text)?;
+        let shown = show(alloc, script)?;
+        Ok(Played { review, shown })
+    }
+}
+
+impl Document {
+    /// No play.
+    pub fn new(alloc: Global) -> Self {
+        Document {
+            text: String::new(alloc),
+            is_faulty: false,
+        }
+    }
+
+    /// Puts a play last.
+    pub fn push(&mut self, play: &Play<'_>, played: &Played) -> Result<(), AllocError> {
+        self.text.push_str(if self.text.is_empty() {
+            "{\"format\":\"adatask play\",\"version\":1,\"plays\":[\n"
+        } else {
+            ",\n"
+        })?;
+        self.is_faulty = self.is_faulty || played.review.fault.is_some();
+        write_object(&mut self.text, play, played)
+    }
+
+    /// Ends the document, after its last play.
+    pub fn end(&mut self) -> Result<(), AllocError> {
+        self.text.push_str("\n]}\n")
+    }
+}
+
 /// Plays some scripts, and writes the plays as one JSON object. Of a script with a faulty line those before the first
 /// one are played. An `Err` is `Memory`.
 pub fn write_plays(alloc: Global, plays: &[Play<'_>]) -> Result<Document, RunFault> {
-    let mut document = Document {
-        text: String::new(alloc),
-        is_faulty: false,
-    };
-    let mut before = "{\"format\":\"adatask play\",\"version\":1,\"plays\":[\n";
+    let mut document = Document::new(alloc);
     for play in plays {
-        put(&mut document.text, before)?;
-        before = ",\n";
-        let is_faulty = write_play(alloc, &mut document.text, play)?;
-        document.is_faulty = document.is_faulty || is_faulty;
+        let played = Played::of(alloc, play)?;
+        document.push(play, &played).map_err(|_| RunFault::Memory)?;
     }
-    put(&mut document.text, "\n]}\n")?;
+    document.end().map_err(|_| RunFault::Memory)?;
     Ok(document)
-}
-
-fn put(out: &mut String, text: &str) -> Result<(), RunFault> {
-    out.push_str(text).map_err(|_| RunFault::Memory)
-}
-
-// Appends a play; whether its script has a faulty line.
-fn write_play(alloc: Global, out: &mut String, play: &Play<'_>) -> Result<bool, RunFault> {
-    let review = review_of(alloc, play.text).map_err(|_| RunFault::Memory)?;
-    let text = match review.fault {
-        Some(fault) => lines_before(play.text, fault.line),
-        None => play.text,
-    };
-    let script = read_script(alloc, text)?;
-    let shown = show(alloc, script)?;
-    let rows = write_rows(alloc, &shown).map_err(|_| RunFault::Memory)?;
-    write_object(alloc, out, play, &review, &rows).map_err(|_| RunFault::Memory)?;
-    Ok(review.fault.is_some())
 }
 
 // The lines before that of a number, from 1.
@@ -73,22 +95,16 @@ fn lines_before(text: &[u8], number: u32) -> &[u8] {
     text.get(..length).unwrap_or(text)
 }
 
-fn write_object(
-    alloc: Global,
-    out: &mut String,
-    play: &Play<'_>,
-    review: &Review,
-    rows: &str,
-) -> Result<(), AllocError> {
+fn write_object(out: &mut String, play: &Play<'_>, played: &Played) -> Result<(), AllocError> {
     out.push_str("{\"file\":")?;
     put_quoted(out, play.file)?;
     out.push_str(",\"script\":[")?;
-    write_lines(alloc, out, play.text)?;
+    write_lines(*out.allocator(), out, play.text)?;
     out.push_str("],\n\"findings\":[")?;
-    write_findings(out, &review.findings)?;
+    write_findings(out, &played.review.findings)?;
     out.push_str("],\n\"rows\":")?;
-    out.push_str(rows)?;
-    out.push('}')
+    out.push_str(&played.shown.told.rows)?;
+    out.push_str("}]}")
 }
 
 fn write_lines(alloc: Global, out: &mut String, text: &[u8]) -> Result<(), AllocError> {

@@ -1,6 +1,8 @@
 //! The page of a play: what stands after each line of a script, as a document, and a page that steps through it.
 #![tactic(auto)]
 
+pub mod changing;
+pub mod circles;
 pub mod document;
 pub mod moments;
 pub mod nests;

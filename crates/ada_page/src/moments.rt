@@ -6,14 +6,14 @@ ghost use Rattle.ada_page.specs.Standing.{IsStanding};
 ghost use Rattle.ada_page.specs.Shows.{Shows};
 
 use crate::standing::{Standing, standing_of};
-use crate::telling::Teller;
+use crate::telling::{Said, Teller, Told};
 use ada_kernel::Kernel;
 use ada_replay::play::say;
 use ada_replay::{Account, Answer, RunFault};
 use ada_script::{Line, Names, Script};
 use std::alloc::{AllocError, Global};
 
-/// A play, what stands at its beginning and after each line, and what is told of that.
+/// A play, what stands at its beginning and after each line, and what is told of both.
 #[derive(Drop)]
 pub struct Shown {
     pub account: Account,
@@ -21,8 +21,7 @@ pub struct Shown {
     pub first: Standing,
     /// What stands after each line.
     pub standings: Vec<Standing>,
-    /// Of the beginning and of each line the members of its last row that tell of what stands.
-    pub told: Vec<String>,
+    pub told: Told,
 }
 
 /// What some lines were answered, what they printed, and what stands after each.
@@ -46,6 +45,11 @@ fn or_memory<T: Drop>(done: Result<T, AllocError>) -> Result<T, RunFault>
     done.map_err(|_| RunFault::Memory)
 }
 
+// What stands in a text after so many bytes.
+fn after(text: &[u8], before: usize) -> &[u8] {
+    text.get(before..).unwrap_or(&[])
+}
+
 // Plays some lines, one after another, and has it told what stands after each.
 fn moments_of(
     alloc: Global,
@@ -63,9 +67,15 @@ fn moments_of(
     let mut text = Vec::new(alloc);
     let mut standings = Vec::new(alloc);
     for line in lines {
+        let before = text.len();
         let answer = say(kernel, names, line, &mut text)?;
         let standing = standing_in(alloc, kernel)?;
-        or_memory(teller.tell_line(kernel, names, lines, line, answer, &standing))?;
+        let said = Said {
+            line,
+            answer,
+            printed: after(&text, before),
+        };
+        or_memory(teller.tell_line(kernel, names, lines, said, &standing))?;
         answers.push(answer).map_err(|_| RunFault::Memory)?;
         standings.push(standing).map_err(|_| RunFault::Memory)?;
     }
@@ -90,6 +100,24 @@ fn teller_of(
     Ok(teller)
 }
 
+// The moments of a play, which are told, after what stands before the first line.
+fn told_moments(
+    alloc: Global,
+    kernel: &mut Kernel,
+    names: &mut Names,
+    lines: &[Line],
+    first: &Standing,
+) -> Result<(Moments, Told), RunFault>
+    ensures ok { IfOk result (λ told.
+        Shows lines.now (state kernel.old names.old) told.0.answers.items told.0.text.items
+        told.0.standings.items (state kernel.new names.new)) }
+    ensures err { IfErr result (λ fault. fault ≡ RunFault.Memory) }
+{
+    let mut teller = teller_of(alloc, kernel, names, first)?;
+    let moments = moments_of(alloc, kernel, names, lines, &mut teller)?;
+    Ok((moments, teller.into_told()))
+}
+
 /// Plays a script on a kernel of its own, and has it told what stands at the beginning and after each line. An `Err` is
 /// `Memory`.
 pub fn show(alloc: Global, script: Script) -> Result<Shown, RunFault>
@@ -102,8 +130,7 @@ pub fn show(alloc: Global, script: Script) -> Result<Shown, RunFault>
     let (lines, mut names) = script.into_parts().map_err(|_| RunFault::Memory)?;
     let mut kernel = Kernel::new(alloc).map_err(|_| RunFault::Memory)?;
     let first = standing_in(alloc, &kernel)?;
-    let mut teller = teller_of(alloc, &kernel, &names, &first)?;
-    let moments = moments_of(alloc, &mut kernel, &mut names, &lines, &mut teller)?;
+    let (moments, told) = told_moments(alloc, &mut kernel, &mut names, &lines, &first)?;
     Ok(Shown {
         account: Account {
             lines,
@@ -114,6 +141,6 @@ pub fn show(alloc: Global, script: Script) -> Result<Shown, RunFault>
         },
         first,
         standings: moments.standings,
-        told: teller.told,
+        told,
     })
 }

@@ -12,16 +12,17 @@ pub fn write_nests(
     scene: Scene<'_>,
     standing: &Standing,
 ) -> Result<(), AllocError> {
-    let mut before = "{";
+    let mut before = "{\"";
     for (task, doing) in standing.doings.iter().enumerate() {
         if !doing.nest.is_empty() {
-            let name = scene.task(TaskNo((task % 65_536) as u16));
-            write!(out, "{before}\"{name}\":")?;
-            before = ",";
+            out.push_str(before)?;
+            out.push_str(scene.task(TaskNo((task % 65_536) as u16)))?;
+            out.push_str("\":")?;
+            before = ",\"";
             write_nest(out, scene, &doing.nest)?;
         }
     }
-    out.push_str(if before == "{" { "{}" } else { "}" })
+    out.push_str(if before == "{\"" { "{}" } else { "}" })
 }
 
 fn write_nest(out: &mut String, scene: Scene<'_>, nest: &[Member]) -> Result<(), AllocError> {
@@ -52,11 +53,10 @@ fn write_member(out: &mut String, scene: Scene<'_>, member: Member) -> Result<()
     else {
         return out.push_str("{}");
     };
-    let caller = scene.task(*by);
-    let family = scene.family_name(*callee, entry.family);
+    out.push_str("{\"caller\":\"")?;
+    out.push_str(scene.task(*by))?;
+    out.push_str("\",\"entry\":\"")?;
+    out.push_str(scene.family_name(*callee, entry.family))?;
     let index = entry.index;
-    write!(
-        out,
-        "{{\"caller\":\"{caller}\",\"entry\":\"{family}\",\"index\":{index},\"call\":{call}}}"
-    )
+    write!(out, "\",\"index\":{index},\"call\":{call}}}")
 }

@@ -1,6 +1,6 @@
 //! Plays as a page of HTML, with all that it needs in it.
 
-use crate::document::{Document, Play, write_plays};
+use crate::document::{Document, Play, Played};
 use crate::template::frame::{
     BEFORE_PLAYS, BEFORE_SCRIPT, BEFORE_STYLE, BEFORE_TEXT, BEFORE_TITLE, END,
 };
@@ -11,21 +11,22 @@ use crate::template::steps::STEPS;
 use crate::template::style::STYLE;
 use crate::template::tasks::TASKS;
 use crate::texts::put_html;
-use ada_explain::explain;
+use ada_explain::explanation::explanation_of;
 use ada_lint::printing::print_review;
-use ada_lint::review::review_of;
 use ada_replay::RunFault;
-use ada_replay::replaying::read_script;
 use std::alloc::{AllocError, Global};
 
 /// Plays some scripts, and writes a page that steps through the plays. It shows them as text too, where no script of a
 /// page runs. Of a script with a faulty line those before the first one are played. An `Err` is `Memory`.
 pub fn write_page(alloc: Global, plays: &[Play<'_>]) -> Result<Document, RunFault> {
-    let document = write_plays(alloc, plays)?;
+    let mut document = Document::new(alloc);
     let mut text = String::new(alloc);
     for play in plays {
-        put_told(alloc, &mut text, play)?;
+        let played = Played::of(alloc, play)?;
+        document.push(play, &played).map_err(|_| RunFault::Memory)?;
+        put_told(&mut text, play, &played).map_err(|_| RunFault::Memory)?;
     }
+    document.end().map_err(|_| RunFault::Memory)?;
     let mut page = String::new(alloc);
     put_page(&mut page, plays, &text, &document.text).map_err(|_| RunFault::Memory)?;
     Ok(Document {
@@ -63,18 +64,23 @@ fn put_title(page: &mut String, plays: &[Play<'_>]) -> Result<(), AllocError> {
 }
 
 // Appends what `explain` tells of a play, or `lint` of a script with a faulty line, as HTML.
-fn put_told(alloc: Global, out: &mut String, play: &Play<'_>) -> Result<(), RunFault> {
-    let told = match read_script(alloc, play.text) {
-        Ok(script) => explain(alloc, play.text, script, false)?.text,
-        Err(RunFault::Script(_)) => faults_told(alloc, play)?,
-        Err(fault) => return Err(fault),
+fn put_told(out: &mut String, play: &Play<'_>, played: &Played) -> Result<(), AllocError> {
+    let alloc = *out.allocator();
+    let review = &played.review;
+    let told = if review.fault.is_some() {
+        print_review(alloc, play.file, play.text, review, usize::MAX)?
+    } else {
+        let shown = &played.shown;
+        explanation_of(
+            alloc,
+            play.text,
+            &shown.account,
+            &shown.told.sentences,
+            false,
+        )?
+        .text
     };
-    put_section(out, play.file, &told).map_err(|_| RunFault::Memory)
-}
-
-fn faults_told(alloc: Global, play: &Play<'_>) -> Result<String, RunFault> {
-    let review = review_of(alloc, play.text).map_err(|_| RunFault::Memory)?;
-    print_review(alloc, play.file, play.text, &review, usize::MAX).map_err(|_| RunFault::Memory)
+    put_section(out, play.file, &told)
 }
 
 fn put_section(out: &mut String, file: &str, told: &str) -> Result<(), AllocError> {

@@ -4,7 +4,6 @@ use crate::standing::Standing;
 use ada_events::journal::event_in;
 use ada_events::{Entry, Event, TaskNo};
 use ada_explain::Scene;
-use ada_waiting::Reason;
 use std::alloc::{AllocError, Global};
 
 /// A call that stands in the queue of an entry.
@@ -13,8 +12,6 @@ pub struct Queued {
     pub caller: TaskNo,
     pub callee: TaskNo,
     pub entry: Entry,
-    /// The position of the call.
-    pub call: u32,
     /// Its place in the queue, from 1.
     pub place: u32,
 }
@@ -30,27 +27,56 @@ impl Queued {
 #[derive(Drop)]
 pub struct Queues {
     calls: Vec<Queued>,
+    /// The place of each task's call in its queue, from 1; 0 if it stands in none.
+    places: Vec<u32>,
 }
 
 impl Queues {
-    /// The queues of a kernel, by what stands there.
-    pub fn of(alloc: Global, scene: Scene<'_>, standing: &Standing) -> Result<Self, AllocError> {
-        let mut calls = queued_calls(alloc, scene, standing)?;
-        calls.sort_by_key(|queued| queued.call)?;
-        let mut queues = Queues { calls };
-        queues.number();
-        Ok(queues)
+    /// No call stands in a queue.
+    pub fn new(alloc: Global) -> Self {
+        Queues {
+            calls: Vec::new(alloc),
+            places: Vec::new(alloc),
+        }
     }
 
-    /// The calls, in the order in which they came.
-    pub fn calls(&self) -> &[Queued] {
-        &self.calls
+    /// Takes the queues of a kernel in place of these, by what stands there.
+    pub fn take(&mut self, scene: Scene<'_>, standing: &Standing) -> Result<(), AllocError> {
+        self.calls.clear();
+        self.places.clear();
+        self.places.resize(standing.doings.len(), 0)?;
+        for call in &standing.queued {
+            self.push(scene, *call)?;
+        }
+        self.number();
+        Ok(())
+    }
+
+    // Puts a call last.
+    fn push(&mut self, scene: Scene<'_>, call: u32) -> Result<(), AllocError> {
+        if let Some(
+            Event::Called {
+                by,
+                callee,
+                entry,
+                ..
+            },
+        ) = event_in(scene.events, call)
+        {
+            self.calls.push(Queued {
+                caller: *by,
+                callee: *callee,
+                entry: *entry,
+                place: 0,
+            })?;
+        }
+        Ok(())
     }
 
     /// The place of a task's call in its queue, from 1; 0 if it stands in none.
     pub fn place_of(&self, caller: TaskNo) -> u32 {
-        match self.calls.iter().find(|queued| queued.caller == caller) {
-            Some(queued) => queued.place,
+        match self.places.get(usize::from(caller.0)) {
+            Some(place) => *place,
             None => 0,
         }
     }
@@ -61,6 +87,9 @@ impl Queues {
             let place = place_at(&self.calls, i);
             if let Some(queued) = self.calls.get_mut(i) {
                 queued.place = place;
+                if let Some(of_caller) = self.places.get_mut(usize::from(queued.caller.0)) {
+                    *of_caller = place;
+                }
             }
         }
     }
@@ -78,36 +107,27 @@ impl Queues {
         out.push_str(if before == "[" { "[]" } else { "]" })
     }
 
-    // The callers in the queue in which a call stands, the first one first.
-    fn callers(&self, alloc: Global, first: &Queued) -> Result<Vec<TaskNo>, AllocError> {
-        let mut callers = Vec::new(alloc);
-        for queued in &self.calls {
-            if queued.is_beside(first) {
-                callers.push(queued.caller)?;
-            }
-        }
-        Ok(callers)
-    }
-
     fn write_queue(
         &self,
         out: &mut String,
         scene: Scene<'_>,
         first: &Queued,
     ) -> Result<(), AllocError> {
-        let task = scene.task(first.callee);
-        let family = scene.family_name(first.callee, first.entry.family);
+        out.push_str("{\"task\":\"")?;
+        out.push_str(scene.task(first.callee))?;
+        out.push_str("\",\"entry\":\"")?;
+        out.push_str(scene.family_name(first.callee, first.entry.family))?;
         let index = first.entry.index;
-        write!(
-            out,
-            "{{\"task\":\"{task}\",\"entry\":\"{family}\",\"index\":{index},\"callers\":["
-        )?;
-        let callers = self.callers(*out.allocator(), first)?;
-        for (i, caller) in callers.iter().enumerate() {
-            let before = if i > 0 { "," } else { "" };
-            write!(out, "{before}\"{}\"", scene.task(*caller))?;
+        write!(out, "\",\"index\":{index},\"callers\":[")?;
+        let mut before = "\"";
+        for queued in &self.calls {
+            if queued.is_beside(first) {
+                out.push_str(before)?;
+                out.push_str(scene.task(queued.caller))?;
+                before = "\",\"";
+            }
         }
-        out.push_str("]}")
+        out.push_str("\"]}")
     }
 }
 
@@ -121,27 +141,4 @@ fn place_at(calls: &[Queued], at: usize) -> u32 {
         Some(before) => before.place.saturating_add(1),
         None => 1,
     }
-}
-
-fn queued_calls(
-    alloc: Global,
-    scene: Scene<'_>,
-    standing: &Standing,
-) -> Result<Vec<Queued>, AllocError> {
-    let mut calls = Vec::new(alloc);
-    for (task, doing) in standing.doings.iter().enumerate() {
-        let Some(Reason::Queued { call }) = doing.reason else {
-            continue;
-        };
-        if let Some(Event::Called { callee, entry, .. }) = event_in(scene.events, call) {
-            calls.push(Queued {
-                caller: TaskNo((task % 65_536) as u16),
-                callee: *callee,
-                entry: *entry,
-                call,
-                place: 0,
-            })?;
-        }
-    }
-    Ok(calls)
 }

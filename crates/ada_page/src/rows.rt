@@ -1,6 +1,5 @@
 //! The rows of a play: the beginning, and a row for each printed line.
 
-use crate::moments::Shown;
 use crate::texts::put_member;
 use ada_events::journal::event_in;
 use ada_events::{Event, TaskNo};
@@ -17,40 +16,16 @@ use itoa::Buffer;
 use std::alloc::{AllocError, Global};
 use std::str;
 
-/// What is written, and what came by the events that were written.
+/// The rows that were written, and what came by their events. The last row is open: members may be put to it.
 #[derive(Drop)]
-struct Writer<'a> {
-    alloc: Global,
-    scene: Scene<'a>,
+pub struct Rows {
     past: Past,
-    printed: Lines<'a>,
-    out: String,
-}
-
-/// Writes the rows of a play, each as an object, as a list.
-pub fn write_rows(alloc: Global, shown: &Shown) -> Result<String, AllocError> {
-    let account = &shown.account;
-    let mut writer = Writer {
-        alloc,
-        scene: Scene::at_end(account),
-        past: Past::new(alloc)?,
-        printed: Lines::new(&account.text),
-        out: String::new(alloc),
-    };
-    let mut told = shown.told.iter();
-    writer.begin(text_of(told.next()))?;
-    for (line, answer) in account.lines.iter().zip(account.answers.iter()) {
-        writer.write_answer(line.line, *answer, text_of(told.next()))?;
-    }
-    writer.out.push(']')?;
-    Ok(writer.out)
-}
-
-fn text_of(told: Option<&String>) -> &str {
-    match told {
-        Some(text) => text.as_str(),
-        None => "",
-    }
+    /// The tasks that do something else by the last event.
+    changed: Vec<TaskNo>,
+    /// Why the last event came.
+    because: String,
+    /// A list of objects, whose last one is open.
+    pub out: String,
 }
 
 // What a task does, in a word.
@@ -79,131 +54,166 @@ fn without_position(line: &str) -> &str {
     }
 }
 
-impl Writer<'_> {
-    // The beginning, before any line.
-    fn begin(&mut self, told: &str) -> Result<(), AllocError> {
-        self.out.push_str("[\n{\"line\":0,\"kind\":\"begin\"")?;
-        self.out.push_str(",\"stages\":{\"main\":\"running\"}")?;
-        self.out.push_str(told)?;
-        self.out.push('}')
+// The next printed line.
+fn next_of<'a>(printed: &mut Lines<'a>) -> &'a str {
+    match printed.next() {
+        Some(line) => str::from_utf8(line).unwrap_or(""),
+        None => "",
+    }
+}
+
+// The tasks that an event ends by a quit, of those that do something else by it.
+fn quit_by<'x>(event: &Event, changed: &'x [TaskNo]) -> &'x [TaskNo] {
+    match event {
+        Event::Quit { .. } => changed,
+        _ => &[],
+    }
+}
+
+impl Rows {
+    /// The row of the beginning, before any line.
+    pub fn new(alloc: Global) -> Result<Self, AllocError> {
+        let mut out = String::new(alloc);
+        out.push_str("[\n{\"line\":0,\"kind\":\"begin\"")?;
+        out.push_str(",\"stages\":{\"main\":\"running\"}")?;
+        Ok(Rows {
+            past: Past::new(alloc)?,
+            changed: Vec::new(alloc),
+            because: String::new(alloc),
+            out,
+        })
     }
 
-    fn begin_row(&mut self, line: u32) -> Result<(), AllocError> {
-        self.out.push_str(",\n{\"line\":")?;
+    /// Ends the last row and begins one of a line, after whose answer this is what was printed.
+    pub fn write_answer(
+        &mut self,
+        scene: Scene<'_>,
+        line: u32,
+        answer: Answer,
+        printed: &[u8],
+    ) -> Result<(), AllocError> {
+        let mut printed = Lines::new(printed);
+        match answer {
+            Answer::Group { first, last } => {
+                self.write_group(scene, line, first, last, &mut printed)
+            }
+            Answer::Refused(cause) => {
+                self.begin_row(line, "refused")?;
+                put_text(&mut self.out, "cause", cause.name())?;
+                put_member(&mut self.out, "printed", next_of(&mut printed))
+            }
+            Answer::Shown(value) => {
+                self.begin_row(line, "shown")?;
+                self.put_value(value)?;
+                put_member(&mut self.out, "printed", next_of(&mut printed))
+            }
+        }
+    }
+
+    fn begin_row(&mut self, line: u32, kind: &str) -> Result<(), AllocError> {
+        self.begin_line(line)?;
+        put_text(&mut self.out, "kind", kind)
+    }
+
+    fn begin_line(&mut self, line: u32) -> Result<(), AllocError> {
+        self.out.push_str("},\n{\"line\":")?;
         let mut buffer = Buffer::new();
         self.out.push_str(buffer.format(line))
     }
 
-    // The rows of a line; what stands after it is told in the last one.
-    fn write_answer(&mut self, line: u32, answer: Answer, told: &str) -> Result<(), AllocError> {
-        match answer {
-            Answer::Group { first, last } => self.write_group(line, first, last)?,
-            Answer::Refused(cause) => {
-                self.begin_row(line)?;
-                put_text(&mut self.out, "kind", "refused")?;
-                put_text(&mut self.out, "cause", cause.name())?;
-                self.put_answer()?;
-            }
-            Answer::Shown(value) => {
-                self.begin_row(line)?;
-                put_text(&mut self.out, "kind", "shown")?;
-                match value {
-                    Value::Truth(truth) => put_truth(&mut self.out, "value", truth)?,
-                    Value::Number(number) => {
-                        put_number(&mut self.out, "value", i64::from(number))?;
-                    }
-                }
-                self.put_answer()?;
-            }
+    fn put_value(&mut self, value: Value) -> Result<(), AllocError> {
+        match value {
+            Value::Truth(truth) => put_truth(&mut self.out, "value", truth),
+            Value::Number(number) => put_number(&mut self.out, "value", i64::from(number)),
         }
-        self.out.push_str(told)?;
-        self.out.push('}')
     }
 
-    // The event that a line asked for, and those that it forced; the last row is left open.
-    fn write_group(&mut self, line: u32, first: u32, last: u32) -> Result<(), AllocError> {
+    // The event that a line asked for, and those that it forced.
+    fn write_group(
+        &mut self,
+        scene: Scene<'_>,
+        line: u32,
+        first: u32,
+        last: u32,
+        printed: &mut Lines<'_>,
+    ) -> Result<(), AllocError> {
         for position in first..=last {
-            self.begin_row(line)?;
+            self.begin_line(line)?;
             put_position(&mut self.out, "position", position)?;
             if position > first {
                 put_position(&mut self.out, "forced_by", first)?;
             }
-            self.put_event(position)?;
-            if position < last {
-                self.out.push('}')?;
-            }
+            let printed = without_position(next_of(printed));
+            put_member(&mut self.out, "printed", printed)?;
+            self.put_event(scene, position)?;
         }
         Ok(())
     }
 
-    fn put_answer(&mut self) -> Result<(), AllocError> {
-        let line = self.printed.next().unwrap_or(&[]);
-        put_member(&mut self.out, "printed", str::from_utf8(line).unwrap_or(""))
+    /// The text of the rows.
+    pub fn into_text(self) -> String {
+        self.out
     }
 
     // What happened by the event at a position, after those before it, why it came, and what tasks do then that did
     // something else.
-    fn put_event(&mut self, position: u32) -> Result<(), AllocError> {
-        let line = self.printed.next().unwrap_or(&[]);
-        let printed = without_position(str::from_utf8(line).unwrap_or(""));
-        put_member(&mut self.out, "printed", printed)?;
-        let scene = self.scene;
+    fn put_event(&mut self, scene: Scene<'_>, position: u32) -> Result<(), AllocError> {
         let Some(event) = event_in(scene.events, position) else {
             return Ok(());
         };
         put_text(&mut self.out, "kind", kind_of(event))?;
         let made = TaskNo((self.past.lives().tasks() % 65_536) as u16);
-        let changed = self.take(position, event, made)?;
-        let quit: &[TaskNo] = match event {
-            Event::Quit { .. } => &changed,
-            _ => &[],
-        };
+        self.take(scene, position, event, made)?;
+        let quit = quit_by(event, &self.changed);
         put_told(&mut self.out, scene, position, event, made, quit)?;
-        self.put_because(position)?;
-        self.put_stages(&changed)
+        self.put_because(scene, position)?;
+        self.put_stages(scene)
     }
 
     // By which row the event at a position was forced, and why it came.
-    fn put_because(&mut self, position: u32) -> Result<(), AllocError> {
+    fn put_because(&mut self, scene: Scene<'_>, position: u32) -> Result<(), AllocError> {
         let arrival = Arrival {
-            scene: self.scene,
+            scene,
             past: &self.past,
             position,
         };
         if let Some(row) = arrival.row() {
             put_number(&mut self.out, "rule", i64::from(row))?;
         }
-        let mut text = String::new(self.alloc);
-        arrival.write(&mut text)?;
-        put_member(&mut self.out, "because", &text)
+        self.because.clear();
+        arrival.write(&mut self.because)?;
+        put_member(&mut self.out, "because", &self.because)
     }
 
-    // The tasks that do something else by an event, a new one among them.
+    // Takes note of the tasks that do something else by an event, a new one among them.
     fn take(
         &mut self,
+        scene: Scene<'_>,
         position: u32,
         event: &Event,
         made: TaskNo,
-    ) -> Result<Vec<TaskNo>, AllocError> {
-        self.past.take(self.scene, position, event)?;
-        let mut changed = Vec::new(self.alloc);
+    ) -> Result<(), AllocError> {
+        self.past.take(scene, position, event)?;
+        self.changed.clear();
         for span in self.past.ended() {
-            changed.push(span.task)?;
+            self.changed.push(span.task)?;
         }
         if let Event::Created { .. } = event {
-            changed.push(made)?;
+            self.changed.push(made)?;
         }
-        Ok(changed)
+        Ok(())
     }
 
-    fn put_stages(&mut self, changed: &[TaskNo]) -> Result<(), AllocError> {
-        let mut before = ",\"stages\":{";
-        for task in changed {
-            let name = self.scene.task(*task);
-            let word = word_of(self.past.lives().stage(*task));
-            write!(self.out, "{before}\"{name}\":\"{word}\"")?;
-            before = ",";
+    fn put_stages(&mut self, scene: Scene<'_>) -> Result<(), AllocError> {
+        let mut before = ",\"stages\":{\"";
+        for task in &self.changed {
+            self.out.push_str(before)?;
+            self.out.push_str(scene.task(*task))?;
+            self.out.push_str("\":\"")?;
+            self.out.push_str(word_of(self.past.lives().stage(*task)))?;
+            before = "\",\"";
         }
-        self.out.push_str(if changed.is_empty() { "" } else { "}" })
+        self.out
+            .push_str(if self.changed.is_empty() { "" } else { "\"}" })
     }
 }

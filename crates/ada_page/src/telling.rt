@@ -1,15 +1,18 @@
-//! What is told of what stands: what isn't as it was told last.
+//! What is told of a play: its rows, and in the last row of each line what stands that isn't as it was told last.
 
+use crate::changing::Changing;
+use crate::circles::write_circles;
 use crate::nests::write_nests;
 use crate::queues::Queues;
+use crate::rows::Rows;
 use crate::standing::Standing;
 use crate::texts::{put_member, put_quoted};
-use crate::whys::Whys;
+use crate::whys::{Waits, Whys};
 use ada_explain::Scene;
-use ada_explain::circles::circles;
 use ada_explain::clients::Clients;
 use ada_explain::end::End;
 use ada_explain::refusals::write_refused;
+use ada_explain::sentences::Sentences;
 use ada_explain::standstill::write_verdict;
 use ada_kernel::Kernel;
 use ada_replay::{Answer, Refused};
@@ -17,49 +20,59 @@ use ada_script::{Line, Names};
 use ada_waiting::Verdict;
 use std::alloc::{AllocError, Global};
 
-/// Tells what stands, moment after moment.
+/// Tells of a play, moment after moment.
 #[derive(Drop)]
 pub struct Teller {
-    alloc: Global,
+    rows: Rows,
     clients: Clients,
     /// How many events the clients are of.
     taken: usize,
+    calls: Queues,
     whys: Whys,
-    queues: String,
-    nests: String,
-    circles: String,
-    verdict: String,
-    /// What was told of each moment: members of an object, each after a comma.
-    pub told: Vec<String>,
+    queues: Changing,
+    nests: Changing,
+    circles: Changing,
+    verdict: Changing,
+    /// The verdict that was told last, if one was.
+    ended: Option<Verdict>,
+    sentences: Sentences,
+    /// Room for a sentence.
+    sentence: String,
 }
 
-// Appends a member of an object, if it isn't what was told last.
-fn put_changed(
-    out: &mut String,
-    key: &str,
-    last: &mut String,
-    text: String,
-) -> Result<(), AllocError> {
-    if last.as_str() != text.as_str() {
-        write!(out, ",\"{key}\":{text}")?;
-        *last = text;
-    }
-    Ok(())
+/// What was told of a play.
+#[derive(Drop)]
+pub struct Told {
+    /// The rows of the beginning and of each printed line, a list of objects whose last one is open.
+    pub rows: String,
+    /// Why each refused line was refused.
+    pub sentences: Sentences,
+}
+
+/// What a line was answered, and what was printed after it.
+#[derive(Clone, Copy)]
+pub struct Said<'a> {
+    pub line: &'a Line,
+    pub answer: Answer,
+    pub printed: &'a [u8],
 }
 
 impl Teller {
     /// Nothing was told yet.
     pub fn new(alloc: Global) -> Result<Self, AllocError> {
         Ok(Teller {
-            alloc,
+            rows: Rows::new(alloc)?,
             clients: Clients::new(alloc)?,
             taken: 0,
+            calls: Queues::new(alloc),
             whys: Whys::new(alloc),
-            queues: String::new(alloc),
-            nests: String::new(alloc),
-            circles: String::new(alloc),
-            verdict: String::new(alloc),
-            told: Vec::new(alloc),
+            queues: Changing::new(alloc),
+            nests: Changing::new(alloc),
+            circles: Changing::new(alloc),
+            verdict: Changing::new(alloc),
+            ended: None,
+            sentences: Sentences::new(alloc),
+            sentence: String::new(alloc),
         })
     }
 
@@ -70,87 +83,94 @@ impl Teller {
         names: &Names,
         standing: &Standing,
     ) -> Result<(), AllocError> {
-        let mut out = String::new(self.alloc);
-        self.put_standing(&mut out, Scene::of(kernel, names), standing)?;
-        self.told.push(out)?;
-        Ok(())
+        let scene = Scene::of(kernel, names);
+        let newer = scene.events.get(self.taken..).unwrap_or(&[]);
+        self.clients.take(scene.events, newer)?;
+        self.taken = scene.events.len();
+        self.calls.take(scene, standing)?;
+        self.put_standing(&End { scene }, standing)
     }
 
-    /// Tells what stands after a line, and why it was refused, if it was: then nothing has changed.
+    /// Tells what a line was answered, and what stands after it, or why it was refused, if it was: then nothing has
+    /// changed.
     pub fn tell_line(
         &mut self,
         kernel: &Kernel,
         names: &Names,
         lines: &[Line],
-        line: &Line,
-        answer: Answer,
+        said: Said<'_>,
         standing: &Standing,
     ) -> Result<(), AllocError> {
-        let Answer::Refused(cause) = answer else {
+        let scene = Scene::of(kernel, names);
+        self.rows
+            .write_answer(scene, said.line.line, said.answer, said.printed)?;
+        let Answer::Refused(cause) = said.answer else {
             return self.tell(kernel, names, standing);
         };
         let refused = Refused {
             kernel,
             names,
             lines,
-            statement: &line.statement,
+            statement: &said.line.statement,
             cause,
         };
-        let mut why = String::new(self.alloc);
+        self.put_refused(refused)
+    }
+
+    fn put_refused(&mut self, refused: Refused<'_>) -> Result<(), AllocError> {
+        let mut why = String::new(*self.sentence.allocator());
         write_refused(&mut why, refused)?;
-        let mut out = String::new(self.alloc);
-        put_member(&mut out, "why", &why)?;
-        self.told.push(out)?;
+        put_member(&mut self.rows.out, "why", &why)?;
+        self.sentences.sentences.push(why)?;
         Ok(())
     }
 
-    fn put_standing(
-        &mut self,
-        out: &mut String,
-        scene: Scene<'_>,
-        standing: &Standing,
-    ) -> Result<(), AllocError> {
-        let end = End { scene };
-        let newer = scene.events.get(self.taken..).unwrap_or(&[]);
-        self.clients.take(scene.events, newer)?;
-        self.taken = scene.events.len();
-        let queues = Queues::of(self.alloc, scene, standing)?;
-        self.whys.tell(out, &end, &self.clients, standing, &queues)?;
-        let mut text = String::new(self.alloc);
-        queues.write(&mut text, scene)?;
-        put_changed(out, "queues", &mut self.queues, text)?;
-        let mut text = String::new(self.alloc);
-        write_nests(&mut text, scene, standing)?;
-        put_changed(out, "nests", &mut self.nests, text)?;
-        let mut text = String::new(self.alloc);
-        write_circles(&mut text, &end)?;
-        put_changed(out, "circles", &mut self.circles, text)?;
-        let mut text = String::new(self.alloc);
-        put_verdict(&mut text, &end, standing.verdict)?;
-        put_changed(out, "verdict", &mut self.verdict, text)
-    }
-}
-
-// Appends the names of the tasks of each circle.
-fn write_circles(out: &mut String, end: &End<'_>) -> Result<(), AllocError> {
-    out.push('[')?;
-    for (i, circle) in circles(*out.allocator(), end)?.iter().enumerate() {
-        out.push_str(if i > 0 { ",[" } else { "[" })?;
-        for (j, task) in circle.iter().enumerate() {
-            let before = if j > 0 { "," } else { "" };
-            write!(out, "{before}\"{}\"", end.scene.task(*task))?;
+    /// What was told.
+    pub fn into_told(self) -> Told {
+        let rows = self.rows;
+        Told {
+            rows: rows.into_text(),
+            sentences: self.sentences,
         }
-        out.push(']')?;
     }
-    out.push(']')
+
+    fn put_standing<'x>(
+        &mut self,
+        end: &'x End<'x>,
+        standing: &'x Standing,
+    ) -> Result<(), AllocError> {
+        let out = &mut self.rows.out;
+        let is_other_run = self.whys.is_other_run(standing);
+        let ended = Some(standing.verdict);
+        let whys = Waits {
+            end,
+            standing,
+            clients: &self.clients,
+            queues: &self.calls,
+            is_other_run,
+        };
+        self.whys.tell(out, &whys)?;
+        self.calls.write(self.queues.anew(), end.scene)?;
+        self.queues.put(out, "queues")?;
+        write_nests(self.nests.anew(), end.scene, standing)?;
+        self.nests.put(out, "nests")?;
+        write_circles(self.circles.anew(), end, standing)?;
+        self.circles.put(out, "circles")?;
+        if is_other_run || self.ended != ended {
+            self.ended = ended;
+            self.sentence.clear();
+            write_ending(&mut self.sentence, end, standing.verdict)?;
+            put_quoted(self.verdict.anew(), self.sentence.trim())?;
+            self.verdict.put(out, "verdict")?;
+        }
+        Ok(())
+    }
 }
 
-fn put_verdict(out: &mut String, end: &End<'_>, verdict: Verdict) -> Result<(), AllocError> {
-    let mut text = String::new(*out.allocator());
+fn write_ending(text: &mut String, end: &End<'_>, verdict: Verdict) -> Result<(), AllocError> {
     if verdict == Verdict::Finished {
-        text.push_str("The main program is terminated.")?;
+        text.push_str("The main program is terminated.")
     } else {
-        write_verdict(&mut text, end, verdict)?;
+        write_verdict(text, end, verdict)
     }
-    put_quoted(out, text.trim())
 }

@@ -56,16 +56,24 @@ fn put_units(out: &mut String, text: &str) -> Result<(), AllocError> {
     Ok(())
 }
 
-/// Appends a member of an object, after those before it.
-pub fn put_member(out: &mut String, key: &str, text: &str) -> Result<(), AllocError> {
+/// Begins a member of an object, after those before it.
+pub fn put_key(out: &mut String, key: &str) -> Result<(), AllocError> {
     out.push_str(",\"")?;
     out.push_str(key)?;
-    out.push_str("\":")?;
+    out.push_str("\":")
+}
+
+/// Appends a member of an object, after those before it.
+pub fn put_member(out: &mut String, key: &str, text: &str) -> Result<(), AllocError> {
+    put_key(out, key)?;
     put_quoted(out, text)
 }
 
 /// Appends a text as HTML shows it.
 pub fn put_html(out: &mut String, text: &str) -> Result<(), AllocError> {
+    if is_shown(text) {
+        return out.push_str(text);
+    }
     for (i, line) in text.split('\n').enumerate() {
         if i > 0 {
             out.push('\n')?;

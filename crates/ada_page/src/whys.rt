@@ -1,14 +1,15 @@
 //! Why each task doesn't go on, or that it runs.
 
+use crate::changing::Changing;
 use crate::queues::Queues;
 use crate::standing::{Doing, Standing};
 use crate::texts::put_quoted;
 use ada_events::TaskNo;
 use ada_explain::clients::Clients;
 use ada_explain::end::End;
-use ada_explain::reasons::{awaited, meeting_of};
+use ada_explain::reasons::meeting_of;
 use ada_explain::standstill::write_task;
-use ada_waiting::Reason;
+use ada_waiting::{Reason, awaits};
 use std::alloc::{AllocError, Global};
 
 /// What was told last of a task, and of what that depends.
@@ -19,7 +20,8 @@ struct Last {
     /// Its place in a queue, 0 if it stands in none.
     place: u32,
     client: Option<Client>,
-    text: String,
+    /// As an object; empty if nothing was told yet.
+    told: Changing,
 }
 
 /// The task that a task served last, and why that doesn't go on.
@@ -29,13 +31,24 @@ struct Client {
     reason: Option<Reason>,
 }
 
+/// On what it depends why tasks don't go on.
+#[derive(Clone, Copy)]
+pub struct Waits<'a, 'b> {
+    pub end: &'a End<'a>,
+    pub standing: &'a Standing,
+    pub clients: &'b Clients,
+    pub queues: &'b Queues,
+    /// Whether other tasks run than when something was told last.
+    pub is_other_run: bool,
+}
+
 /// What was told last of each task.
 #[derive(Drop)]
 pub struct Whys {
     alloc: Global,
     last: Vec<Last>,
-    /// Which tasks ran then.
-    runners: Vec<bool>,
+    /// Room for a sentence.
+    sentence: String,
 }
 
 // What tells why a task doesn't go on, as a word.
@@ -81,7 +94,7 @@ impl Last {
             runs: false,
             place: 0,
             client: None,
-            text: String::new(alloc),
+            told: Changing::new(alloc),
         }
     }
 
@@ -91,7 +104,7 @@ impl Last {
             Some(reason) => depends_on_others(reason, is_other_run),
             None => false,
         };
-        !self.text.is_empty()
+        !self.told.last().is_empty()
             && !depends
             && self.reason == doing.reason
             && self.runs == doing.runs
@@ -106,52 +119,37 @@ impl Whys {
         Whys {
             alloc,
             last: Vec::new(alloc),
-            runners: Vec::new(alloc),
+            sentence: String::new(alloc),
         }
     }
 
     /// Appends why tasks don't go on, as a member of an object, of those of which something else was told last.
-    pub fn tell(
-        &mut self,
-        out: &mut String,
-        end: &End<'_>,
-        clients: &Clients,
-        standing: &Standing,
-        queues: &Queues,
-    ) -> Result<(), AllocError> {
-        let is_other_run = self.take_runners(standing)?;
-        let mut before = ",\"whys\":{";
-        for (task, doing) in standing.doings.iter().enumerate() {
+    pub fn tell(&mut self, out: &mut String, waits: &Waits<'_, '_>) -> Result<(), AllocError> {
+        let mut before = ",\"whys\":{\"";
+        for (task, doing) in waits.standing.doings.iter().enumerate() {
             let task = TaskNo((task % 65_536) as u16);
-            let place = queues.place_of(task);
-            if self.changes(end, clients, task, doing, place, is_other_run)? {
-                write!(
-                    out,
-                    "{before}\"{}\":{}",
-                    end.scene.task(task),
-                    self.text(task)
-                )?;
-                before = ",";
+            if self.changes(waits, task, doing)? {
+                out.push_str(before)?;
+                out.push_str(waits.end.scene.task(task))?;
+                out.push_str("\":")?;
+                out.push_str(self.text(task))?;
+                before = ",\"";
             }
         }
-        out.push_str(if before == "," { "}" } else { "" })
+        out.push_str(if before == ",\"" { "}" } else { "" })
     }
 
-    // Takes note of who runs; whether others did.
-    fn take_runners(&mut self, standing: &Standing) -> Result<bool, AllocError> {
-        let mut runners = Vec::new(self.alloc);
-        for doing in &standing.doings {
-            runners.push(doing.runs)?;
-        }
-        let is_other_run = runners != self.runners;
-        self.runners = runners;
-        Ok(is_other_run)
+    /// Whether other tasks run than when something was told last.
+    pub fn is_other_run(&self, standing: &Standing) -> bool {
+        let mut runs = standing.doings.iter().zip(self.last.iter());
+        standing.doings.len() != self.last.len()
+            || runs.any(|(doing, last)| doing.runs != last.runs)
     }
 
     // What was told last of a task.
     fn text(&self, task: TaskNo) -> &str {
         match self.last.get(usize::from(task.0)) {
-            Some(last) => last.text.as_str(),
+            Some(last) => last.told.last(),
             None => "null",
         }
     }
@@ -159,67 +157,67 @@ impl Whys {
     // Whether something else is to be told of a task than was told last.
     fn changes(
         &mut self,
-        end: &End<'_>,
-        clients: &Clients,
+        waits: &Waits<'_, '_>,
         task: TaskNo,
         doing: &Doing,
-        place: u32,
-        is_other_run: bool,
     ) -> Result<bool, AllocError> {
-        let client = client_of(end, clients, task);
+        let place = waits.queues.place_of(task);
+        let client = client_of(waits, task, doing);
         if usize::from(task.0) >= self.last.len() {
             self.last.push(Last::new(self.alloc))?;
         }
         let Some(last) = self.last.get_mut(usize::from(task.0)) else {
             return Ok(false);
         };
-        if last.holds(doing, place, client, is_other_run) {
+        if last.holds(doing, place, client, waits.is_other_run) {
             return Ok(false);
         }
-        let mut text = String::new(self.alloc);
-        write_why(&mut text, end, clients, task, doing)?;
         last.client = client;
         last.reason = doing.reason;
         last.runs = doing.runs;
         last.place = place;
-        let changes = last.text.as_str() != text.as_str();
-        last.text = text;
-        Ok(changes)
+        self.sentence.clear();
+        write_task(&mut self.sentence, waits.end, waits.clients, task)?;
+        let sentence = self.sentence.trim();
+        write_why(last.told.anew(), waits.end, task, doing, client, sentence)?;
+        Ok(last.told.take())
     }
 }
 
 // The task that a task served last, if it waits for other calls than that one.
-fn client_of(end: &End<'_>, clients: &Clients, task: TaskNo) -> Option<Client> {
-    let client = clients.client_of(end.scene, task)?;
+fn client_of(waits: &Waits<'_, '_>, task: TaskNo, doing: &Doing) -> Option<Client> {
+    let Some(Reason::Waiting { .. }) = doing.reason else {
+        return None;
+    };
+    let client = waits.clients.client_of(waits.end.scene, task)?;
     Some(Client {
         task: client,
-        reason: end.reason(client),
+        reason: waits.standing.doings.get(usize::from(client.0))?.reason,
     })
 }
 
-// Why a task doesn't go on, or that it runs; null if it is terminated.
+// Why a task doesn't go on, or that it runs, which a sentence says; null if there is none, since it is terminated.
 fn write_why(
     out: &mut String,
     end: &End<'_>,
-    clients: &Clients,
     task: TaskNo,
     doing: &Doing,
+    client: Option<Client>,
+    sentence: &str,
 ) -> Result<(), AllocError> {
-    let mut sentence = String::new(*out.allocator());
-    write_task(&mut sentence, end, clients, task)?;
     if sentence.is_empty() {
         return out.push_str("null");
     }
     out.push_str("{\"text\":")?;
-    put_quoted(out, sentence.trim())?;
+    put_quoted(out, sentence)?;
     if let Some(reason) = doing.reason {
         write_reason(out, end, task, reason)?;
     }
     if let Some(due) = doing.due {
         write!(out, ",\"due\":{due}")?;
     }
-    if let Some(client) = clients.client_of(end.scene, task) {
-        write!(out, ",\"served\":\"{}\"", end.scene.task(client))?;
+    if let Some(client) = client {
+        write!(out, ",\"served\":\"{}\"", end.scene.task(client.task))?;
     }
     out.push('}')
 }
@@ -230,14 +228,30 @@ fn write_reason(
     task: TaskNo,
     reason: Reason,
 ) -> Result<(), AllocError> {
-    write!(out, ",\"reason\":\"{}\"", word_of(reason))?;
+    out.push_str(",\"reason\":\"")?;
+    out.push_str(word_of(reason))?;
+    out.push('"')?;
     if let Some(position) = since(end, reason) {
         write!(out, ",\"since\":{position}")?;
     }
-    let mut before = ",\"awaits\":[";
-    for other in &awaited(*out.allocator(), end.scene, task, reason)? {
-        write!(out, "{before}\"{}\"", end.scene.task(*other))?;
-        before = ",";
+    write_awaited(out, end, task, reason)
+}
+
+// The tasks for which a task waits, if there are some.
+fn write_awaited(
+    out: &mut String,
+    end: &End<'_>,
+    task: TaskNo,
+    reason: Reason,
+) -> Result<(), AllocError> {
+    let view = end.scene.kernel.view();
+    let mut before = ",\"awaits\":[\"";
+    for other in 0..end.tasks() {
+        if awaits(&view, task, TaskNo(other), reason) {
+            out.push_str(before)?;
+            out.push_str(end.scene.task(TaskNo(other)))?;
+            before = "\",\"";
+        }
     }
-    out.push_str(if before == "," { "]" } else { "" })
+    out.push_str(if before == "\",\"" { "\"]" } else { "" })
 }

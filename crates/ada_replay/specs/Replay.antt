@@ -6,7 +6,7 @@ use Rattle.ada_events.specs.Attributes.{is_finished}
 use Rattle.ada_statements.specs.declared.fault.ScriptFault.{ScriptFault}
 use Rattle.ada_statements.specs.declared.fault.Cause.TheVariants.{OutOfMemory}
 use Rattle.ada_script.specs.declared.script.Line.{Line}
-use Rattle.ada_script.specs.Script.{scope_of, IsScript, IsFirstFault}
+use Rattle.ada_script.specs.Script.{scope_of, IsScript, IsFirstFaultWithin, most_lines}
 use Rattle.ada_replay.specs.declared.fault.Ending.{Ending}
 use Rattle.ada_replay.specs.declared.fault.Ending.TheVariants.{Finished, Unfinished}
 use Rattle.ada_replay.specs.declared.fault.RunFault.{RunFault}
@@ -42,15 +42,24 @@ pub record IsBrokenOff (text : List ℕ) (before after : Option (List ℕ)) : Ty
   pub reads : IsScript text script
   pub cut : IsCutShort (Plays script (beginning script)) before after
 
--- a fault that names the first line of a text that isn't acceptable, and isn't want of memory
-abbrev pub IsFaultOf : List ℕ → ScriptFault → Type 0
-IsFaultOf text fault = IsFirstFault text fault × (fault.cause ≡ OutOfMemory → ⊥)
+-- a fault that names the first line of a text that isn't acceptable, where so many lines are allowed, and isn't want of
+-- memory
+abbrev pub IsFaultWithin : ℕ → List ℕ → ScriptFault → Type 0
+IsFaultWithin most text fault = IsFirstFaultWithin most text fault × (fault.cause ≡ OutOfMemory → ⊥)
 
--- want of memory, or a fault of a text that is no script
+-- and in a script
+abbrev pub IsFaultOf : List ℕ → ScriptFault → Type 0
+IsFaultOf text fault = IsFaultWithin most_lines text fault
+
+-- want of memory, or a fault of a text that is no script of so many lines at most
+abbrev pub IsReadingFaultWithin : ℕ → List ℕ → RunFault → Type 0
+IsReadingFaultWithin most text (Script fault) = IsFaultWithin most text fault
+IsReadingFaultWithin _ _ Memory = Unit {0}
+IsReadingFaultWithin _ _ _ = ⊥
+
+-- or of one that is no script
 abbrev pub IsReadingFault : List ℕ → RunFault → Type 0
-IsReadingFault text (Script fault) = IsFaultOf text fault
-IsReadingFault _ Memory = Unit {0}
-IsReadingFault _ _ = ⊥
+IsReadingFault text fault = IsReadingFaultWithin most_lines text fault
 
 -- what a fault says of what was written of a text's play: nothing where the text is no script, and where
 -- memory or the output was refused nothing or a beginning of the play

@@ -1,16 +1,17 @@
 //! Replaying a script: from the bytes that are read to the bytes that are written.
-ghost use Rattle.std.specs.Prelude.{◌≡◌, IfOk, IfErr};
-ghost use Rattle.ada_script.specs.Script.{IsScript, scope_of};
+ghost use Rattle.std.specs.Prelude.{◌≡◌, ◌<◌, ◌-◌, ◌^◌, IfOk, IfErr};
+ghost use Rattle.ada_script.specs.Script.{IsScript, IsScriptWithin, scope_of};
 ghost use Rattle.ada_replay.specs.Input.{most_bytes, TakesAtMost};
 ghost use Rattle.ada_replay.specs.Play.{Plays};
 ghost use Rattle.ada_replay.specs.Ends.{IsShortage, IsCutShort};
-ghost use Rattle.ada_replay.specs.Replay.{beginning, Tells, IsScriptReplayed, IsReplayed, IsReadingFault, BreaksText, Replays, Breaks};
+ghost use Rattle.ada_replay.specs.Replay.{beginning, Tells, IsScriptReplayed, IsReplayed};
+ghost use Rattle.ada_replay.specs.Replay.{IsReadingFault, IsReadingFaultWithin, BreaksText, Replays, Breaks};
 
 use crate::input::read_input;
 use crate::play::play;
 use crate::{Ending, RunFault};
 use ada_kernel::Kernel;
-use ada_script::{Cause, Line, Names, Script, ScriptFault, read};
+use ada_script::{Cause, Line, MOST_LINES, Names, Script, ScriptFault, read_within};
 use std::alloc::Global;
 use std::io::{Read, Write};
 
@@ -37,12 +38,13 @@ pub fn replay<R: Read, W: Write>(
     }
 }
 
-/// Reads a text as a script. Want of memory isn't a fault of the script.
-pub fn read_script(alloc: Global, text: &[u8]) -> Result<Script, RunFault>
-    ensures ok { IfOk result (λ script. IsScript text.now script) }
-    ensures err { IfErr result (IsReadingFault text.now) }
+/// Reads a text of so many lines at most as a script. Want of memory isn't a fault of the script.
+pub fn read_script_within(alloc: Global, text: &[u8], most: u32) -> Result<Script, RunFault>
+    requires { most < 2 ^ 32 - 1 }
+    ensures ok { IfOk result (λ script. IsScriptWithin most text.now script) }
+    ensures err { IfErr result (IsReadingFaultWithin most text.now) }
 {
-    match read(alloc, text) {
+    match read_within(alloc, text, most) {
         Ok(script) => Ok(script),
         Err(
             ScriptFault {
@@ -52,6 +54,14 @@ pub fn read_script(alloc: Global, text: &[u8]) -> Result<Script, RunFault>
         ) => Err(RunFault::Memory),
         Err(fault) => Err(RunFault::Script(fault)),
     }
+}
+
+/// Reads a text as a script, which has at most 4,096 lines: see [`read_script_within`].
+pub fn read_script(alloc: Global, text: &[u8]) -> Result<Script, RunFault>
+    ensures ok { IfOk result (λ script. IsScript text.now script) }
+    ensures err { IfErr result (IsReadingFault text.now) }
+{
+    read_script_within(alloc, text, MOST_LINES)
 }
 
 /// Whether the main program of a kernel is terminated.

@@ -32,11 +32,11 @@ tick_follows : (journal : List Event) (now : ℤ) → IsSettled journal → refu
 unfolding asked_event
 tick_follows journal now settled accepted = inr (record { settled = settled; request = Tick now; accepted = accepted; becomes = refl })
 
-tick_kept : (old : List Event) (names : Renaming) (now : ℤ) → names_kept names old (Tick now) ≡ true
+pub tick_kept : (old : List Event) (names : Renaming) (now : ℤ) → names_kept names old (Tick now) ≡ true
 unfolding names_kept asker named_tasks
 tick_kept old names now = refl
 
-tick_renamed : (names : Renaming) (now : ℤ) → renamed_request names (Tick now) ≡ Tick now
+pub tick_renamed : (names : Renaming) (now : ℤ) → renamed_request names (Tick now) ≡ Tick now
 unfolding renamed_request
 tick_renamed names now = refl
 

@@ -23,15 +23,16 @@ says names before words statement known read =
     record { stands = subst (λ (n : Scope). MayStand n statement) known r.0; spelled = r.1 }
 
 -- what a line adds
-abbrev pub AddsTo : List Line → ℕ → List ℕ → List Line → Type 0
-AddsTo before number line after = (added : List Line) × AddsLine before number line added × (after ≡ before ++ added)
+abbrev pub AddsTo : ℕ → List Line → ℕ → List ℕ → List Line → Type 0
+AddsTo most before number line after = (added : List Line) × AddsLine most before number line added × (after ≡ before ++ added)
 
 -- one line, and then the others
-pub reads_on : (before after : List Line) (number : ℕ) (line : List ℕ) (lines behind : List (List ℕ)) → lines ≡ line ∷ behind → AddsTo before number line after
-    → (all : List Line) → AddsLines after (number + 1) behind all → AddsLines before number lines all
-reads_on before after number line lines behind first adds all others =
-    subst (λ (ls : List (List ℕ)). AddsLines before number ls all) (sym first)
-    (adds.0, adds.1, subst (λ (a : List Line). AddsLines a (number + 1) behind all) adds.2 others)
+pub reads_on : (most : ℕ) (before after : List Line) (number : ℕ) (line : List ℕ) (lines behind : List (List ℕ)) → lines ≡ line ∷ behind
+    → AddsTo most before number line after
+    → (all : List Line) → AddsLines most after (number + 1) behind all → AddsLines most before number lines all
+reads_on most before after number line lines behind first adds all others =
+    subst (λ (ls : List (List ℕ)). AddsLines most before number ls all) (sym first)
+    (adds.0, adds.1, subst (λ (a : List Line). AddsLines most a (number + 1) behind all) adds.2 others)
 
 -- ---- faults
 
@@ -60,10 +61,11 @@ pub of_these : (names : Scope) (fault : Fault) {words these : List (List ℕ)} �
 of_these names fault same fails = subst (λ (ws : List (List ℕ)). (fault ≡ OutOfMemory) ⊎ (statement_of names ws ≡ Err fault)) same fails
 
 -- words that weren't read: memory was refused, or they are at fault
-pub words_fail : (names : Scope) (before : List Line) (number : ℕ) (line : List ℕ) (fault : Fault) → names ≡ scope_of before → IsPlainAt number line
+pub words_fail : (most : ℕ) (names : Scope) (before : List Line) (number : ℕ) (line : List ℕ) (fault : Fault) → names ≡ scope_of before
+    → IsPlainAt most number line
     → is_skipped (words_in line) ≡ false → (fault ≡ OutOfMemory) ⊎ (statement_of names (words_in line) ≡ Err fault)
-    → (cause_of fault ≡ causes.OutOfMemory) ⊎ IsFault before number line (cause_of fault)
-words_fail names before number line fault known plain skipped fails = elim fails [
+    → (cause_of fault ≡ causes.OutOfMemory) ⊎ IsFault most before number line (cause_of fault)
+words_fail most names before number line fault known plain skipped fails = elim fails [
   | inl memory ↦ inl (ap cause_of memory)
   | inr read ↦ elim (of_words fault) [
     | inl memory ↦ inl (ap cause_of memory)
@@ -89,8 +91,8 @@ nothing_reads names words fault fails = elim fails [
 ]
 
 -- the first of the lines is at fault
-pub stops_here : (before : List Line) (number : ℕ) (line : List ℕ) (lines behind : List (List ℕ)) (cause : Cause) → lines ≡ line ∷ behind
-    → IsFault before number line cause
-    → Stops before number lines (record { line = number; cause = cause })
-stops_here before number line lines behind cause first fault =
-    subst (λ (ls : List (List ℕ)). Stops before number ls (record { line = number; cause = cause })) (sym first) (inl (refl, fault))
+pub stops_here : (most : ℕ) (before : List Line) (number : ℕ) (line : List ℕ) (lines behind : List (List ℕ)) (cause : Cause) → lines ≡ line ∷ behind
+    → IsFault most before number line cause
+    → Stops most before number lines (record { line = number; cause = cause })
+stops_here most before number line lines behind cause first fault =
+    subst (λ (ls : List (List ℕ)). Stops most before number ls (record { line = number; cause = cause })) (sym first) (inl (refl, fault))

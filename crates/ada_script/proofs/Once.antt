@@ -59,14 +59,15 @@ said_once before words one other first second =
     let b : statement_of names words ≡ Ok other = ap (statement_of names) (sym second.spelled) ∙ statement_again names other second.stands in
     cc
 
-pub adds_once : (before : List Line) (number : ℕ) (line : List ℕ) (one other : List Line) → AddsLine before number line one → AddsLine before number line other
+pub adds_once : (most : ℕ) (before : List Line) (number : ℕ) (line : List ℕ) (one other : List Line) → AddsLine most before number line one
+    → AddsLine most before number line other
     → one ≡ other
-adds_once before number line one other (plain, inl first) (plain', inl second) = first.1 ∙ sym second.1
-adds_once before number line one other (plain, inl first) (plain', inr second) =
+adds_once most before number line one other (plain, inl first) (plain', inl second) = first.1 ∙ sym second.1
+adds_once most before number line one other (plain, inl first) (plain', inr second) =
     absurd (true≢false (sym first.0 ∙ said_unskipped before (words_in line) second.0 second.1))
-adds_once before number line one other (plain, inr first) (plain', inl second) =
+adds_once most before number line one other (plain, inr first) (plain', inl second) =
     absurd (true≢false (sym second.0 ∙ said_unskipped before (words_in line) first.0 first.1))
-adds_once before number line one other (plain, inr first) (plain', inr second) =
+adds_once most before number line one other (plain, inr first) (plain', inr second) =
     let same = said_once before (words_in line) first.0 second.0 first.1 second.1 in
     let made : Statement → List Line = λ s. record { line = number; statement = s } ∷ [] in
     first.2 ∙ ap made same ∙ sym second.2
@@ -82,44 +83,46 @@ unplain line causes.DoubleName fault plain = fault
 unplain line causes.TooManyLines fault plain = fault
 unplain line causes.OutOfMemory fault plain = fault
 
-unplain_there : (number : ℕ) (line : List ℕ) (cause : Cause) → IsUnplainAt number line cause → IsPlainAt number line → ⊥
-unplain_there number line cause (inl many) plain = omega (arith, many.1, plain.0)
-unplain_there number line cause (inr fault) plain = unplain line cause fault.1 plain.1
+unplain_there : (most : ℕ) (number : ℕ) (line : List ℕ) (cause : Cause) → IsUnplainAt most number line cause → IsPlainAt most number line → ⊥
+unplain_there most number line cause (inl many) plain = omega (arith, many.1, plain.0)
+unplain_there most number line cause (inr fault) plain = unplain line cause fault.1 plain.1
 
-pub fault_adds_nothing : (before : List Line) (number : ℕ) (line : List ℕ) (cause : Cause) (added : List Line) → IsFault before number line cause
-    → AddsLine before number line added → ⊥
-fault_adds_nothing before number line cause added (inl fault) adds = unplain_there number line cause fault adds.0
-fault_adds_nothing before number line cause added (inr fault) (plain, inl skipped) = true≢false (sym skipped.0 ∙ fault.2.0)
-fault_adds_nothing before number line cause added (inr fault) (plain, inr said) = fault.2.1 said.0 said.1
+pub fault_adds_nothing : (most : ℕ) (before : List Line) (number : ℕ) (line : List ℕ) (cause : Cause) (added : List Line)
+    → IsFault most before number line cause
+    → AddsLine most before number line added → ⊥
+fault_adds_nothing most before number line cause added (inl fault) adds = unplain_there most number line cause fault adds.0
+fault_adds_nothing most before number line cause added (inr fault) (plain, inl skipped) = true≢false (sym skipped.0 ∙ fault.2.0)
+fault_adds_nothing most before number line cause added (inr fault) (plain, inr said) = fault.2.1 said.0 said.1
 
 -- ---- all lines
 
-pub reads_once : (before : List Line) (number : ℕ) (lines : List (List ℕ)) (one other : List Line) → AddsLines before number lines one
-    → AddsLines before number lines other → one ≡ other
-reads_once before number [] one other first second = first ∙ sym second
-reads_once before number (line ∷ lines) one other first second =
-    let same = adds_once before number line first.0 second.0 first.1 second.1 in
-    reads_once (before ++ second.0) (number + 1) lines one other
-    (subst (λ (a : List Line). AddsLines (before ++ a) (number + 1) lines one) same first.2) second.2
+pub reads_once : (most : ℕ) (before : List Line) (number : ℕ) (lines : List (List ℕ)) (one other : List Line) → AddsLines most before number lines one
+    → AddsLines most before number lines other → one ≡ other
+reads_once most before number [] one other first second = first ∙ sym second
+reads_once most before number (line ∷ lines) one other first second =
+    let same = adds_once most before number line first.0 second.0 first.1 second.1 in
+    reads_once most (before ++ second.0) (number + 1) lines one other
+    (subst (λ (a : List Line). AddsLines most (before ++ a) (number + 1) lines one) same first.2) second.2
 
-pub stops_unread : (before : List Line) (number : ℕ) (lines : List (List ℕ)) (fault : ScriptFault) (all : List Line) → Stops before number lines fault
-    → AddsLines before number lines all → ⊥
-stops_unread before number [] fault all stops reads = stops
-stops_unread before number (line ∷ lines) fault all (inl here) reads = fault_adds_nothing before number line fault.cause reads.0 here.1 reads.1
-stops_unread before number (line ∷ lines) fault all (inr behind) reads =
-    let same = adds_once before number line behind.0 reads.0 behind.1 reads.1 in
-    stops_unread (before ++ reads.0) (number + 1) lines fault all
-    (subst (λ (a : List Line). Stops (before ++ a) (number + 1) lines fault) same behind.2) reads.2
+pub stops_unread : (most : ℕ) (before : List Line) (number : ℕ) (lines : List (List ℕ)) (fault : ScriptFault) (all : List Line)
+    → Stops most before number lines fault
+    → AddsLines most before number lines all → ⊥
+stops_unread most before number [] fault all stops reads = stops
+stops_unread most before number (line ∷ lines) fault all (inl here) reads = fault_adds_nothing most before number line fault.cause reads.0 here.1 reads.1
+stops_unread most before number (line ∷ lines) fault all (inr behind) reads =
+    let same = adds_once most before number line behind.0 reads.0 behind.1 reads.1 in
+    stops_unread most (before ++ reads.0) (number + 1) lines fault all
+    (subst (λ (a : List Line). Stops most (before ++ a) (number + 1) lines fault) same behind.2) reads.2
 
-pub stops_once : (before : List Line) (number : ℕ) (lines : List (List ℕ)) (fault other : ScriptFault) → Stops before number lines fault
-    → Stops before number lines other → fault.line ≡ other.line
-stops_once before number [] fault other first second = absurd first
-stops_once before number (line ∷ lines) fault other (inl here) (inl there) = here.0 ∙ sym there.0
-stops_once before number (line ∷ lines) fault other (inl here) (inr behind) =
-    absurd (fault_adds_nothing before number line fault.cause behind.0 here.1 behind.1)
-stops_once before number (line ∷ lines) fault other (inr behind) (inl there) =
-    absurd (fault_adds_nothing before number line other.cause behind.0 there.1 behind.1)
-stops_once before number (line ∷ lines) fault other (inr first) (inr second) =
-    let same = adds_once before number line first.0 second.0 first.1 second.1 in
-    stops_once (before ++ second.0) (number + 1) lines fault other
-    (subst (λ (a : List Line). Stops (before ++ a) (number + 1) lines fault) same first.2) second.2
+pub stops_once : (most : ℕ) (before : List Line) (number : ℕ) (lines : List (List ℕ)) (fault other : ScriptFault) → Stops most before number lines fault
+    → Stops most before number lines other → fault.line ≡ other.line
+stops_once most before number [] fault other first second = absurd first
+stops_once most before number (line ∷ lines) fault other (inl here) (inl there) = here.0 ∙ sym there.0
+stops_once most before number (line ∷ lines) fault other (inl here) (inr behind) =
+    absurd (fault_adds_nothing most before number line fault.cause behind.0 here.1 behind.1)
+stops_once most before number (line ∷ lines) fault other (inr behind) (inl there) =
+    absurd (fault_adds_nothing most before number line other.cause behind.0 there.1 behind.1)
+stops_once most before number (line ∷ lines) fault other (inr first) (inr second) =
+    let same = adds_once most before number line first.0 second.0 first.1 second.1 in
+    stops_once most (before ++ second.0) (number + 1) lines fault other
+    (subst (λ (a : List Line). Stops most (before ++ a) (number + 1) lines fault) same first.2) second.2

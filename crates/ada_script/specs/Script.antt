@@ -20,9 +20,9 @@ IsPrintable line = All (λ b. (32 ≤ b) × (b ≤ 126)) line
 abbrev pub IsPlain : List ℕ → Type 0
 IsPlain line = (length line ≤ 200) × IsPrintable line
 
--- and so is its number
-abbrev pub IsPlainAt : ℕ → List ℕ → Type 0
-IsPlainAt number line = (number ≤ 4096) × IsPlain line
+-- and so is its number, where so many lines are allowed
+abbrev pub IsPlainAt : ℕ → ℕ → List ℕ → Type 0
+IsPlainAt most number line = (number ≤ most) × IsPlain line
 
 -- why a line's length and bytes aren't in their ranges
 abbrev pub IsUnplain : List ℕ → Cause → Type 0
@@ -31,8 +31,8 @@ IsUnplain line NotAscii = (length line ≤ 200) × ¬ IsPrintable line
 IsUnplain _ _ = ⊥
 
 -- why its number isn't, or else these
-abbrev pub IsUnplainAt : ℕ → List ℕ → Cause → Type 0
-IsUnplainAt number line cause = ((cause ≡ TooManyLines) × (4096 < number)) ⊎ ((number ≤ 4096) × IsUnplain line cause)
+abbrev pub IsUnplainAt : ℕ → ℕ → List ℕ → Cause → Type 0
+IsUnplainAt most number line cause = ((cause ≡ TooManyLines) × (most < number)) ⊎ ((number ≤ most) × IsUnplain line cause)
 
 -- a line without words, or one whose first word begins with a number sign
 abbrev pub begins_comment : List ℕ → Bool
@@ -49,19 +49,28 @@ pub record SpellsStatement (before : List Line) (words : List (List ℕ)) (state
   pub spelled : words_of statement ≡ words
 
 -- what an acceptable line adds to the lines before it: nothing, or its statement
-abbrev pub AddsLine : List Line → ℕ → List ℕ → List Line → Type 0
-AddsLine before number line added = IsPlainAt number line
+abbrev pub AddsLine : ℕ → List Line → ℕ → List ℕ → List Line → Type 0
+AddsLine most before number line added = IsPlainAt most number line
     × ((IsTrue (is_skipped (words_in line)) × (added ≡ []))
     ⊎ ((statement : Statement) × SpellsStatement before (words_in line) statement × (added ≡ record { line = number; statement = statement } ∷ [])))
 
 -- lines, of which the first has this number, add to the lines before them what makes all of these
-abbrev pub AddsLines : List Line → ℕ → List (List ℕ) → List Line → Type 0
-AddsLines before number [] all = all ≡ before
-AddsLines before number (line ∷ lines) all = (added : List Line) × AddsLine before number line added × AddsLines (before ++ added) (number + 1) lines all
+abbrev pub AddsLines : ℕ → List Line → ℕ → List (List ℕ) → List Line → Type 0
+AddsLines most before number [] all = all ≡ before
+AddsLines most before number (line ∷ lines) all =
+    (added : List Line) × AddsLine most before number line added × AddsLines most (before ++ added) (number + 1) lines all
+
+-- a text of so many lines at most is a script of these
+abbrev pub IsScriptWithin : ℕ → List ℕ → List Line → Type 0
+IsScriptWithin most text all = AddsLines most [] 1 (lines_of text) all
+
+-- the most lines that a script has
+abbrev pub most_lines : ℕ
+most_lines = 4096
 
 -- a text is a script of these lines
 abbrev pub IsScript : List ℕ → List Line → Type 0
-IsScript text all = AddsLines [] 1 (lines_of text) all
+IsScript text all = IsScriptWithin most_lines text all
 
 -- ---- texts that aren't scripts
 
@@ -82,15 +91,20 @@ abbrev pub SpellsNothing : List Line → List (List ℕ) → Type 0
 SpellsNothing before words = (is_skipped words ≡ false) × ((statement : Statement) → SpellsStatement before words statement → ⊥)
 
 -- why a line behind these isn't acceptable: its number, its length or its bytes, and else its words
-abbrev pub IsFault : List Line → ℕ → List ℕ → Cause → Type 0
-IsFault before number line cause = IsUnplainAt number line cause ⊎ (IsOfWords cause × IsPlainAt number line × SpellsNothing before (words_in line))
+abbrev pub IsFault : ℕ → List Line → ℕ → List ℕ → Cause → Type 0
+IsFault most before number line cause =
+    IsUnplainAt most number line cause ⊎ (IsOfWords cause × IsPlainAt most number line × SpellsNothing before (words_in line))
 
 -- of lines behind others, of which the first has this number, the first that isn't acceptable
-abbrev pub Stops : List Line → ℕ → List (List ℕ) → ScriptFault → Type 0
-Stops before number [] fault = ⊥
-Stops before number (line ∷ lines) fault = ((fault.line ≡ number) × IsFault before number line fault.cause)
-    ⊎ ((added : List Line) × AddsLine before number line added × Stops (before ++ added) (number + 1) lines fault)
+abbrev pub Stops : ℕ → List Line → ℕ → List (List ℕ) → ScriptFault → Type 0
+Stops most before number [] fault = ⊥
+Stops most before number (line ∷ lines) fault = ((fault.line ≡ number) × IsFault most before number line fault.cause)
+    ⊎ ((added : List Line) × AddsLine most before number line added × Stops most (before ++ added) (number + 1) lines fault)
 
--- the first line of a text that isn't acceptable
+-- the first line of a text that isn't acceptable, where so many lines are allowed
+abbrev pub IsFirstFaultWithin : ℕ → List ℕ → ScriptFault → Type 0
+IsFirstFaultWithin most text fault = Stops most [] 1 (lines_of text) fault
+
+-- and in a script
 abbrev pub IsFirstFault : List ℕ → ScriptFault → Type 0
-IsFirstFault text fault = Stops [] 1 (lines_of text) fault
+IsFirstFault text fault = IsFirstFaultWithin most_lines text fault

@@ -28,5 +28,5 @@ pub use parts::is_name;
 pub use script::{Line, Script};
 pub use spelling::words;
 pub use statements::read_words;
-pub use text::{check_line, check_plain, is_skipped, read};
+pub use text::{MOST_LINES, check_line, check_plain, is_skipped, read, read_within};
 pub use word::Word;

@@ -4,6 +4,7 @@ pub mod Nesting
 pub mod Climbing
 pub mod Living
 pub mod Starting
+pub mod Waiting
 pub mod Orderly
 pub mod Fitting
 pub mod FittingHeld

@@ -3,9 +3,11 @@ use Rattle.std.specs.Prelude.{◌≡◌, ℕ, Bool, false, ◌&&◌, ◌||◌, S
 use Rattle.std.specs.List.{list_any}
 use Rattle.ada_events.specs.declared.event.Event.{Event}
 use Rattle.ada_events.specs.declared.names.TaskNo.{TaskNo}
+use Rattle.ada_events.specs.Search.{is_some_and}
 use Rattle.ada_events.specs.Phases.{lists_task, has_failed}
 use Rattle.ada_events.specs.Calls.{is_met}
 use Rattle.ada_events.specs.Says.{Call, Wait, Delay, Start, Closing, call_in, wait_in, delay_in, start_in, closing_in}
+use Rattle.ada_events.specs.Waits.{tail_due}
 use Rattle.ada_events.specs.Forced.{is_conditional, is_done_activating, task_no}
 use Rattle.ada_standing.specs.Renaming.{Renaming}
 
@@ -39,8 +41,13 @@ pub data IsSameHold (old new : List Event) (names : Renaming) (p q : ℕ) (d e :
   close : (a b : Closing) → closing_in d ≡ Some a → closing_in e ≡ Some b → names.position a.block ≡ Some b.block
       → IsSameHold old new names p q d e
 
--- the events are of one kind: both calls, waits, delays, starts or closes
+-- the event is a wait with an open delay alternative (9.7.1)
+abbrev pub is_timed_wait : Event → Bool
+is_timed_wait event = is_some_and (wait_in event) (λ (w : Wait). is_some (tail_due w.tail))
+
+-- the events are of one kind, among which the order counts: both calls, waits with an open delay alternative, delays,
+-- starts or closes
 abbrev pub is_same_kind : Event → Event → Bool
 is_same_kind d e =
-    is_some (call_in d) && is_some (call_in e) || is_some (wait_in d) && is_some (wait_in e) || is_some (delay_in d) && is_some (delay_in e)
+    is_some (call_in d) && is_some (call_in e) || is_timed_wait d && is_timed_wait e || is_some (delay_in d) && is_some (delay_in e)
     || is_some (start_in d) && is_some (start_in e) || is_some (closing_in d) && is_some (closing_in e)

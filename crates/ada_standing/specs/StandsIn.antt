@@ -85,8 +85,8 @@ pub record KeepsTasks (old new : List Event) (names : Renaming) : Type 0 where
   pub others : (v : ℕ) → is_live new v ≡ true → (u : ℕ) × (names.task u ≡ Some v)
 
 -- positions: each is one of its journal, and stands for one; the order is kept among the calls at which tasks are
--- suspended, and so among their waits, delays, starts and closes, and among the blocks in the nests of tasks that
--- aren't terminated
+-- suspended, and so among their waits with an open delay alternative, their delays, starts and closes, and among the
+-- blocks in the nests of tasks that aren't terminated
 pub record KeepsPositions (old new : List Event) (names : Renaming) : Type 0 where
   pub within : (p a : ℕ) → names.position p ≡ Some a → (p ≤ length old) × (a ≤ length new)
   pub one : (p q a : ℕ) → names.position p ≡ Some a → names.position q ≡ Some a → p ≡ q

@@ -6,7 +6,7 @@ use crate::output::write_text;
 use crate::schedules::{Told, schedule_in};
 use crate::watching::Watching;
 use ada_explain::Source;
-use ada_explore::{Finding as Explored, Halt, Picks, Space, Turn, explore};
+use ada_explore::{Finding as Explored, Freedom, Halt, Picks, Space, Time, Turn, explore};
 use ada_findings::{Finding, ScopeFault};
 use ada_replay::RunFault;
 use ada_replay::replaying::read_script;
@@ -24,15 +24,10 @@ pub fn tell_schedules<R: Files + Input + Print + Eprint + Clock + AllocGlobal>(
 ) -> Result<Finding, ScopeFault> {
     let text = text_of(rt, order.file)?;
     let script = read_script(rt.alloc(), &text)?;
-    let picks = if order.has_all_picks {
-        Picks::All
-    } else {
-        Picks::AsWritten
-    };
     let space = Space {
         alloc: rt.alloc(),
         script: &script,
-        picks,
+        freedom: freedom_of(order),
     };
     let found = search(rt, space, order, is_watched)?;
     let source = Source::of(rt.alloc(), &text).map_err(|_| RunFault::Memory)?;
@@ -45,6 +40,21 @@ pub fn tell_schedules<R: Files + Input + Print + Eprint + Clock + AllocGlobal>(
         write_schedule(rt, told, order, path)?;
     }
     Ok(finding_of(&found))
+}
+
+// What schedules may choose beside the order of lines.
+fn freedom_of(order: &Exploration<'_>) -> Freedom {
+    let picks = if order.has_all_picks {
+        Picks::All
+    } else {
+        Picks::AsWritten
+    };
+    let time = if order.is_late {
+        Time::Late
+    } else {
+        Time::ByTicks
+    };
+    Freedom { picks, time }
 }
 
 // Writes a schedule as a script, and as a list of its choices, to the files that are named.

@@ -9,6 +9,9 @@ use std::io::{ErrorKind, Read};
 /// bytes of comments and shown attributes.
 pub const MOST_BYTES: usize = 16_777_216;
 
+/// More lines than these no log has: each ends with a line feed, but for the last one.
+pub const MOST_LOG_LINES: u32 = 16_777_217;
+
 /// A log as it was read.
 #[derive(Drop)]
 pub struct Log {

@@ -1,9 +1,10 @@
 //! How an order is obeyed.
 
 use crate::checking::tell_checks;
-use crate::conforming::tell_conformance;
+use crate::conforming::{bytes_of, tell_conformance};
 use crate::exploring::tell_schedules;
 use crate::fixing::tell_repairs;
+use crate::input::{MOST_BYTES, MOST_LOG_LINES};
 use crate::order::{Job, What};
 use crate::output::write_text;
 use crate::paging::tell_pages;
@@ -15,7 +16,7 @@ use ada_renderings::compare::comparison::Played;
 use ada_renderings::draw::{write_graph, write_picture, write_sequence};
 use ada_renderings::json::write_events;
 use ada_replay::input::read_input;
-use ada_replay::replaying::read_script;
+use ada_replay::replaying::{read_script, read_script_within};
 use ada_replay::{Account, RunFault, account_of};
 use ada_waiting::Verdict;
 use std::alloc::Global;
@@ -109,6 +110,18 @@ pub(crate) fn text_of<R: Files + Input + AllocGlobal>(
     }
 }
 
+// The text of a script, or of a log, which may be longer.
+fn long_text_of<R: Files + Input + AllocGlobal>(
+    rt: &R,
+    file: Option<&str>,
+) -> Result<Vec<u8>, ScopeFault> {
+    let text = bytes_of(rt, file)?;
+    if text.len() > MOST_BYTES {
+        return Err(ScopeFault::TooLong);
+    }
+    Ok(text)
+}
+
 fn tell<R: Files + Input + Print + AllocGlobal>(
     rt: &R,
     what: What,
@@ -116,7 +129,10 @@ fn tell<R: Files + Input + Print + AllocGlobal>(
     is_strict: bool,
     is_colored: bool,
 ) -> Result<Finding, ScopeFault> {
-    let text = text_of(rt, file)?;
+    let text = match what {
+        What::Faults(_) | What::FaultRecords(_) => text_of(rt, file)?,
+        _ => long_text_of(rt, file)?,
+    };
     match what {
         What::Explanation => tell_explanation(rt, &text, false, is_strict, is_colored),
         What::Reasons => tell_explanation(rt, &text, true, is_strict, is_colored),
@@ -130,7 +146,7 @@ fn tell<R: Files + Input + Print + AllocGlobal>(
 }
 
 fn explanation_of(alloc: Global, text: &[u8], is_each: bool) -> Result<Explanation, RunFault> {
-    let script = read_script(alloc, text)?;
+    let script = read_script_within(alloc, text, MOST_LOG_LINES)?;
     explain(alloc, text, script, is_each)
 }
 
@@ -160,7 +176,7 @@ fn tell_explanation<R: Print + AllocGlobal>(
 }
 
 fn drawn(alloc: Global, text: &[u8], what: What) -> Result<String, RunFault> {
-    let script = read_script(alloc, text)?;
+    let script = read_script_within(alloc, text, MOST_LOG_LINES)?;
     let account = account_of(alloc, script)?;
     let drawn = match what {
         What::Picture(view) => write_picture(alloc, text, &account, view),

@@ -93,6 +93,8 @@ pub struct Exploration<'a> {
     pub choices: Option<&'a str>,
     /// Whether selective waits have all picks, and not only those that are written.
     pub has_all_picks: bool,
+    /// Whether time passes late, and not by the ticks that are written.
+    pub is_late: bool,
 }
 
 /// The repair of a script.
@@ -236,6 +238,12 @@ static MEMORY: &str = "End the search when its states take about so many megabyt
 static PICKS: &str = "Picks of selective waits: as they are written, or all that could matter";
 
 static PICKINGS: [&str; 2] = ["written", "all"];
+
+static TIME: &str =
+    "How time passes where no task can act: by the ticks that are written, or to the first \
+                     moment that is due";
+
+static TIMES: [&str; 2] = ["written", "late"];
 
 static SCHEDULE: &str = "Write the schedule that is found to this file, as a script";
 
@@ -391,11 +399,18 @@ fn explore<'a>(alloc: Global) -> Result<Command<'a>, AllocError> {
         .value_parser(PICKINGS.as_slice())
         .default_value("written")
         .help(PICKS);
+    let time = Arg::new(alloc, "time")
+        .long("time")
+        .action(ArgAction::Set)
+        .value_parser(TIMES.as_slice())
+        .default_value("written")
+        .help(TIME);
     Command::new(alloc, "explore")
         .about(EXPLORE)
         .after_help(EXPLORE_HELP)
         .arg(file(alloc, "FILE"))?
         .arg(picks)?
+        .arg(time)?
         .arg(number_option(alloc, "states", STATES).default_value("1000000"))?
         .arg(number_option(alloc, "seconds", SECONDS))?
         .arg(number_option(alloc, "memory", MEMORY))?
@@ -510,6 +525,7 @@ fn searched<'a>(found: &ArgMatches<'a>) -> Exploration<'a> {
         script: found.get_str("script"),
         choices: found.get_str("choices"),
         has_all_picks: found.get_str("picks") == Some("all"),
+        is_late: found.get_str("time") == Some("late"),
     }
 }
 

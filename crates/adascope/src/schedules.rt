@@ -2,7 +2,9 @@
 
 use ada_explain::standstill::write_standstill;
 use ada_explain::{Scene, Source};
-use ada_explore::{End, Finding as Explored, Halt, Picks, Space, Standing, Stop, Turn, follow};
+use ada_explore::{
+    End, Finding as Explored, Halt, Picks, Space, Standing, Stop, Time, Turn, follow,
+};
 use ada_replay::RunFault;
 use ada_script::{Line, Statement};
 use std::alloc::AllocError;
@@ -104,8 +106,11 @@ impl<'t> Told<'_, 't> {
         }
         if let Some(states) = found.covered {
             text.push_str("none: no schedule gets stuck")?;
-            if self.space.picks == Picks::All {
+            if self.space.freedom.picks == Picks::All {
                 text.push_str(", whatever is picked")?;
+            }
+            if self.space.freedom.time == Time::Late {
+                text.push_str(", if time passes late")?;
             }
             text.push_str("; ")?;
             write_count(text, u64::from(states), "state")?;
@@ -197,12 +202,12 @@ impl<'t> Told<'_, 't> {
         self.space.script.lines().get(usize::from(place))
     }
 
-    // Which of the alternatives that are open the line of a turn takes, where several may be.
-    fn pick(&self, turn: Turn) -> u32 {
-        if let Some(pick) = turn.pick {
+    // Which of the alternatives that are open a line takes, where several may be.
+    fn pick(&self, place: u16, pick: Option<u32>) -> u32 {
+        if let Some(pick) = pick {
             return pick;
         }
-        match self.line(turn.place) {
+        match self.line(place) {
             Some(line) => match &line.statement {
                 Statement::Select { pick, .. } => *pick,
                 _ => 0,
@@ -211,12 +216,30 @@ impl<'t> Told<'_, 't> {
         }
     }
 
-    // The line of a turn, with its pick.
-    fn write_line(&self, text: &mut String, turn: Turn) -> Result<(), AllocError> {
-        let line = self.source.line(self.number(turn.place));
-        match (turn.pick, with_pick_apart(line)) {
+    // The line at a place, with a pick.
+    fn write_line(
+        &self,
+        text: &mut String,
+        place: u16,
+        pick: Option<u32>,
+    ) -> Result<(), AllocError> {
+        let line = self.source.line(self.number(place));
+        match (pick, with_pick_apart(line)) {
             (Some(pick), Some((before, after))) => write!(text, "{before}{pick}{after}\n"),
             _ => write!(text, "{line}\n"),
+        }
+    }
+
+    // The line of a turn that leads on to a standing; of time the tick to where it came.
+    fn write_turn(
+        &self,
+        text: &mut String,
+        turn: Turn,
+        standing: &Standing,
+    ) -> Result<(), AllocError> {
+        match turn {
+            Turn::Line { place, pick } => self.write_line(text, place, pick),
+            Turn::Time => write!(text, "tick {}\n", standing.moment()),
         }
     }
 
@@ -226,10 +249,10 @@ impl<'t> Told<'_, 't> {
         let mut lines = String::new(self.space.alloc);
         for turn in path {
             let refused = standing
-                .say(self.space.script.lines(), self.space.picks, *turn)
+                .say(self.space.script.lines(), self.space.freedom, *turn)
                 .map_err(fault_of)?;
             if refused.is_none() {
-                self.write_line(&mut lines, *turn)
+                self.write_turn(&mut lines, *turn, &standing)
                     .map_err(|_| RunFault::Memory)?;
             }
         }
@@ -240,12 +263,19 @@ impl<'t> Told<'_, 't> {
     pub fn choices_of(&self, path: &[Turn]) -> Result<String, AllocError> {
         let mut choices = String::new(self.space.alloc);
         for turn in path {
-            choices.push_str(self.speaker(turn.place))?;
-            match self.pick(*turn) {
-                0 => choices.push_str("\n")?,
-                pick => write!(choices, " {pick}\n")?,
-            }
+            self.write_choice(&mut choices, *turn)?;
         }
         Ok(choices)
+    }
+
+    fn write_choice(&self, text: &mut String, turn: Turn) -> Result<(), AllocError> {
+        let Turn::Line { place, pick } = turn else {
+            return text.push_str("tick\n");
+        };
+        text.push_str(self.speaker(place))?;
+        match self.pick(place, pick) {
+            0 => text.push_str("\n"),
+            pick => write!(text, " {pick}\n"),
+        }
     }
 }

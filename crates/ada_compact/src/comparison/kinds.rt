@@ -1,13 +1,15 @@
 //! The kinds of events that names lead to, and the order of their positions.
 
 ghost use Rattle.std.specs.Prelude.{◌≡◌, IfSome, true};
-ghost use Rattle.ada_standing.specs.Names.{renaming_of};
-ghost use Rattle.ada_standing.specs.StandsIn.{KeepsPositions};
+ghost use Rattle.ada_events.specs.Lawful.{IsLawful};
+ghost use Rattle.ada_standing.specs.Holds.{is_timed_wait};
 ghost use Rattle.ada_compact.specs.declared.comparison.kinds.Kind.{Kind as KindValue};
-ghost use Rattle.ada_compact.specs.internal.Kinds.{AreAlikePlaces, IsAlikePlace, has_kind, is_kind_at, rises_among};
+ghost use Rattle.ada_compact.specs.internal.Kinds.{AreAlikePlaces, ArePlacesRight, IsAlikePlace, has_kind, is_kind_at, is_no_past_wait, is_ordered};
+ghost use Rattle.ada_compact.specs.internal.Kinds.{is_ordered_at, rises_among};
 
 use crate::comparison::Comparison;
 use ada_events::Event;
+use ada_events::waits::tail_due;
 use ada_standing::Place;
 use ada_view::View;
 
@@ -31,6 +33,17 @@ const KINDS: [Kind; 6] = [
     Kind::Block,
 ];
 
+// Whether the event is a wait with an open delay alternative.
+#[tactic(auto, unfolding(ada_events::specs::Says::wait_in))]
+fn is_timed_wait(event: &Event) -> bool
+    ensures { result ≡ is_timed_wait event.now }
+{
+    match event {
+        Event::Waiting { tail, .. } => tail_due(tail).is_some(),
+        _ => false,
+    }
+}
+
 impl Kind {
     // Whether the event is of this kind.
     #[tactic(auto, unfolding(ada_events::specs::Says::call_in, ada_events::specs::Says::wait_in, ada_events::specs::Says::delay_in, ada_events::specs::Says::start_in, ada_events::specs::Says::closing_in, ada_events::specs::Says::opening_in))]
@@ -47,6 +60,16 @@ impl Kind {
         }
     }
 
+    // Whether the event is of this kind, and the order among those counts.
+    fn is_ordered(self, event: &Event) -> bool
+        ensures { result ≡ is_ordered self event.now }
+    {
+        match self {
+            Kind::Wait => is_timed_wait(event),
+            _ => self.has(event),
+        }
+    }
+
     // Whether an event of this kind stands at a position.
     #[tactic(auto, unfolding(crate::specs::internal::Kinds::is_kind_at))]
     fn is_at(self, view: &View, position: u32) -> bool
@@ -54,6 +77,17 @@ impl Kind {
     {
         match view.event(position) {
             Some(event) => self.has(event),
+            None => false,
+        }
+    }
+
+    // Whether an event of this kind stands at a position, and the order among those counts.
+    #[tactic(auto, unfolding(crate::specs::internal::Kinds::is_ordered_at))]
+    fn is_ordered_at(self, view: &View, position: u32) -> bool
+        ensures { result ≡ is_ordered_at view.now self position }
+    {
+        match view.event(position) {
+            Some(event) => self.is_ordered(event),
             None => false,
         }
     }
@@ -69,6 +103,18 @@ fn kind_at(view: &View, position: u32) -> Option<Kind>
         }
     }
     None
+}
+
+// Whether the event at a position holds its task up, if it is a wait.
+#[tactic(auto, unfolding(crate::specs::internal::Kinds::is_no_past_wait, ada_events::specs::Says::wait_in, ada_events::specs::Says::held_in))]
+fn is_no_past_wait(view: &View, position: u32) -> bool
+    ensures now { result ≡ is_no_past_wait view.now position }
+    ensures lawful { IsLawful view.now }
+{
+    match view.event(position) {
+        Some(Event::Waiting { by, .. }) => view.is_pending(position, *by),
+        _ => true,
+    }
 }
 
 impl Comparison<'_> {
@@ -103,17 +149,20 @@ impl Comparison<'_> {
         self.is_alike(Kind::Block, place)
     }
 
-    // Whether the two events at a place are of the same kind.
+    // Whether the two events at a place are of the same kind, and the first holds its task up, if it is a wait.
     fn is_alike_place(&self, place: Place) -> bool
         ensures { result ≡ true → IsAlikePlace self.now.old self.now.new place }
     {
+        if !is_no_past_wait(&self.old, place.old) {
+            return false;
+        }
         match kind_at(&self.old, place.old) {
             Some(_) => self.are_alike(place),
             None => false,
         }
     }
 
-    // Whether the events at each place are of the same kind.
+    // Whether the events at each place are.
     fn are_alike_places(&self, places: &[Place]) -> bool
         ensures { result ≡ true → AreAlikePlaces self.now.old self.now.new places.now }
     {
@@ -125,14 +174,14 @@ impl Comparison<'_> {
         true
     }
 
-    // Whether among the places of a kind the new positions rise.
+    // Whether among the places of a kind the order of which counts the new positions rise.
     #[tactic(auto, unfolding(crate::specs::internal::Kinds::rises_among))]
     fn rises(&self, kind: Kind, places: &[Place]) -> bool
-        ensures { result ≡ rises_among (is_kind_at self.now.old kind) 0 places.now }
+        ensures { result ≡ rises_among (is_ordered_at self.now.old kind) 0 places.now }
     {
         let mut low = 0;
         for place in places {
-            if kind.is_at(&self.old, place.old) {
+            if kind.is_ordered_at(&self.old, place.old) {
                 if u64::from(place.new) < low {
                     return false;
                 }
@@ -142,10 +191,10 @@ impl Comparison<'_> {
         true
     }
 
-    // Whether among the places of each kind the new positions rise.
+    // Whether among the places of each kind they rise.
     fn rise(&self, places: &[Place]) -> bool
         ensures { result ≡ true → (kind : KindValue)
-            → rises_among (is_kind_at self.now.old kind) 0 places.now ≡ true }
+            → rises_among (is_ordered_at self.now.old kind) 0 places.now ≡ true }
     {
         if !self.rises(Kind::Call, places) {
             return false;
@@ -165,10 +214,10 @@ impl Comparison<'_> {
         self.rises(Kind::Block, places)
     }
 
-    /// Whether positions are kept apart and in their order.
-    pub(crate) fn keeps_positions(&self) -> bool
-        ensures { result ≡ true → KeepsPositions self.now.old self.now.new
-            (renaming_of self.now.names.now) }
+    /// Whether the events at each place are alike, and the new positions rise where the order counts.
+    pub(crate) fn are_places_right(&self) -> bool
+        ensures { result ≡ true
+            → ArePlacesRight self.now.old self.now.new self.now.names.now }
     {
         let places = self.names.places();
         if !self.are_alike_places(places) {

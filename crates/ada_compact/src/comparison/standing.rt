@@ -155,7 +155,7 @@ impl Comparison<'_> {
         if !self.is_same_moment() {
             return false;
         }
-        if !self.keeps_positions() {
+        if !self.are_places_right() {
             return false;
         }
         self.keeps_tasks()

@@ -1,23 +1,26 @@
 -- The same lines may come next, where names stand for the same.
-use Rattle.std.proofs.Common.{◌≡◌, ℕ, ◌≤◌, Bool, true, false, not, ◌&&◌, cond, if◌then◌else◌, Option, Some, None, List, is_some, refl, sym, ap, ◌∙◌, inl, inr}
+use Rattle.std.proofs.Common.{◌≡◌, ℕ, ℤ, ◌≤◌, Bool, true, false, not, ◌&&◌, cond, if◌then◌else◌, Option, Some, None, List, is_some}
+use Rattle.std.proofs.Common.{refl, sym, ap, ◌∙◌, inl, inr}
 use Rattle.std.specs.Option.{option_map}
 use Rattle.std.specs.List.{list_all}
 use Rattle.std.proofs.lemmas.Bool.{and_parts, le-ltb}
 use Rattle.std.proofs.lemmas.Option.{none-some, same_Some}
 use Rattle.ada_events.specs.declared.event.Event.{Event}
 use Rattle.ada_events.specs.declared.request.Request.{Request}
+use Rattle.ada_events.specs.declared.request.Request.TheVariants.{Tick}
 use Rattle.ada_events.specs.Tasks.{has_task, task_count}
 use Rattle.ada_events.specs.Phases.{is_running}
 use Rattle.ada_standing.specs.Renaming.{Renaming}
 use Rattle.ada_standing.specs.StandsIn.{StandsIn}
 use Rattle.ada_standing.proofs.alike.Calling.{same_task_alike}
 use Rattle.ada_standing.proofs.alike.Phases.{running_alike}
+use Rattle.ada_waiting.specs.Standstill.{first_due}
 use Rattle.ada_statements.specs.Scope.{Scope}
 use Rattle.ada_script.specs.declared.script.Line.{Line}
-use Rattle.ada_explore.specs.declared.turns.Turn.{Turn}
-use Rattle.ada_explore.specs.declared.turns.Picks.{Picks}
+use Rattle.ada_explore.specs.declared.turns.Turn.TheVariants.{Line as Say, Time as Pass}
+use Rattle.ada_explore.specs.declared.turns.Freedom.{Freedom}
 use Rattle.ada_explore.specs.Picks.{may_have, with_pick}
-use Rattle.ada_explore.specs.Scripts.{Rest, rest, scripted, request_at, asker_at, is_same, next_of, is_next, runs, may_say, all_silent, may_come}
+use Rattle.ada_explore.specs.Scripts.{Rest, rest, scripted, request_at, asker_at, is_same, next_of, is_next, runs, may_say, all_silent, may_come, is_late}
 use Rattle.ada_explore.specs.internal.Sameness.{says_alike_at}
 use Rattle.ada_explore.proofs.naming.Passing.{find_alike, any_alike, found_within}
 use Rattle.ada_explore.proofs.naming.Numbers.{stands_parts, is_that}
@@ -25,27 +28,48 @@ use Rattle.ada_explore.proofs.naming.Askers.{AskAlike, AreApart, some_alike, sam
 
 -- ---- what comes
 
--- what a turn asks for: its line may come, and may have its pick
-pub record Asked (picks : Picks) (script : List Line) (journal : List Event) (r : Rest) (turn : Turn) (request : Request) : Type 0 where
-  pub may : may_come script journal r turn.place ≡ true
-  pub has : may_have picks script turn.place turn.pick ≡ true
+-- what a line asks for with a pick: it may come, and may have that
+pub record Asked (freedom : Freedom) (script : List Line) (journal : List Event) (r : Rest) (place : ℕ) (pick : Option ℕ) (request : Request) : Type 0 where
+  pub may : may_come script journal r place ≡ true
+  pub has : may_have freedom.picks script place pick ≡ true
   pub written : Request
-  pub asks : request_at script r.names turn.place ≡ Some written
-  pub is : with_pick turn.pick written ≡ request
+  pub asks : request_at script r.names place ≡ Some written
+  pub is : with_pick pick written ≡ request
 
-pub asked_parts : (picks : Picks) (script : List Line) (journal : List Event) (r : Rest) (turn : Turn) (request : Request)
-    → (scripted picks script).asks journal r turn ≡ Some request → Asked picks script journal r turn request
-asked_parts picks script journal r turn request asks =
-    by (may_come script journal r turn.place) (may_have picks script turn.place turn.pick) (request_at script r.names turn.place) refl refl refl asks
+pub asked_parts : (freedom : Freedom) (script : List Line) (journal : List Event) (r : Rest) (place : ℕ) (pick : Option ℕ) (request : Request)
+    → (scripted freedom script).asks journal r (Say place pick) ≡ Some request → Asked freedom script journal r place pick request
+asked_parts freedom script journal r place pick request asks =
+    by (may_come script journal r place) (may_have freedom.picks script place pick) (request_at script r.names place) refl refl refl asks
   where
-    by : (b h : Bool) (o : Option Request) → may_come script journal r turn.place ≡ b → may_have picks script turn.place turn.pick ≡ h
-        → request_at script r.names turn.place ≡ o → cond (b && h) (option_map (with_pick turn.pick) o) None ≡ Some request
-        → Asked picks script journal r turn request
+    by : (b h : Bool) (o : Option Request) → may_come script journal r place ≡ b → may_have freedom.picks script place pick ≡ h
+        → request_at script r.names place ≡ o → cond (b && h) (option_map (with_pick pick) o) None ≡ Some request
+        → Asked freedom script journal r place pick request
     by true true (Some written) may has there is =
-        record { may = may; has = has; written = written; asks = there; is = same_Some (with_pick turn.pick written) request is }
+        record { may = may; has = has; written = written; asks = there; is = same_Some (with_pick pick written) request is }
     by true true None may has there is = absurd (none-some request is)
     by true false o may has there is = absurd (none-some request is)
     by false h o may has there is = absurd (none-some request is)
+
+-- what time asks for that passes late: nobody may say anything, and a task waits for that moment
+pub record Passed (freedom : Freedom) (script : List Line) (journal : List Event) (r : Rest) (request : Request) : Type 0 where
+  pub late : is_late freedom.time ≡ true
+  pub silent : all_silent script journal r ≡ true
+  pub until : ℤ
+  pub first : first_due journal ≡ Some until
+  pub is : Tick until ≡ request
+
+pub passed_parts : (freedom : Freedom) (script : List Line) (journal : List Event) (r : Rest) (request : Request)
+    → (scripted freedom script).asks journal r Pass ≡ Some request → Passed freedom script journal r request
+passed_parts freedom script journal r request asks =
+    by (is_late freedom.time) (all_silent script journal r) (first_due journal) refl refl refl asks
+  where
+    by : (b h : Bool) (o : Option ℤ) → is_late freedom.time ≡ b → all_silent script journal r ≡ h → first_due journal ≡ o
+        → cond (b && h) (option_map Tick o) None ≡ Some request → Passed freedom script journal r request
+    by true true (Some until) late silent first is =
+        record { late = late; silent = silent; until = until; first = first; is = same_Some (Tick until) request is }
+    by true true None late silent first is = absurd (none-some request is)
+    by true false o late silent first is = absurd (none-some request is)
+    by false h o late silent first is = absurd (none-some request is)
 
 coming_next : (script : List Line) (journal : List Event) (r : Rest) (place : ℕ) → may_come script journal r place ≡ true → is_next script r place ≡ true
 coming_next script journal r place comes = by (is_some (asker_at script r.names place)) comes
@@ -113,7 +137,7 @@ module _ (script : List Line) (names : Renaming) (old new : Scope) (left : List 
         (run (asker_at script old place) (asker_at script new place) (asker_at_alike names old new script place says))
         ∙ ap (λ b. runs other (asker_at script new place) && b) (is_next_alike place says)
 
-    silent_alike : all_silent script journal (rest left old) ≡ all_silent script other (rest left new)
+    pub silent_alike : all_silent script journal (rest left old) ≡ all_silent script other (rest left new)
     silent_alike =
         ap not (any_alike (may_say script journal (rest left old)) (may_say script other (rest left new)) (says_alike_at script names old new)
         may_say_alike left all)

@@ -1,5 +1,5 @@
 -- What stood for the same still does once a statement is accepted in both journals.
-use Rattle.std.proofs.Common.{◌≡◌, ℕ, Bool, true, false, not, ◌==◌, if◌then◌else◌, Option, Some, None, List, slice_get, refl, sym, ap, subst, ◌∙◌}
+use Rattle.std.proofs.Common.{◌≡◌, ℕ, ℤ, Bool, true, false, not, ◌==◌, if◌then◌else◌, Option, Some, None, List, slice_get, refl, sym, ap, subst, ◌∙◌}
 use Rattle.std.specs.Option.{option_map, option_map_or}
 use Rattle.std.specs.Str.{bytes_eq}
 use Rattle.std.proofs.lemmas.Bool.{false≢true}
@@ -10,7 +10,7 @@ use Rattle.ada_standing.specs.Renaming.{Renaming}
 use Rattle.ada_statements.specs.declared.meaning.Meaning.{Meaning}
 use Rattle.ada_statements.specs.declared.meaning.Meaning.TheVariants.{Task, Block}
 use Rattle.ada_statements.specs.declared.statement.Statement.{Statement}
-use Rattle.ada_statements.specs.declared.statement.Statement.TheVariants.{Open, Create}
+use Rattle.ada_statements.specs.declared.statement.Statement.TheVariants.{Tick, Open, Create}
 use Rattle.ada_statements.specs.Scope.{Scope, meaning_of}
 use Rattle.ada_statements.specs.Binding.{bind, with_made, with_opened, no_task, task_in, master_in, task_of, master_of}
 use Rattle.ada_script.specs.declared.script.Line.{Line}
@@ -162,6 +162,17 @@ module _ (names more : Renaming) (at at_too : ℕ) (made made_too : TaskNo) wher
     pub says_at_on : (script : List Line) (place : ℕ) → says_alike_at script names old new place ≡ true
         → says_alike_at script more (bind old statement at made) (bind new statement at_too made_too) place ≡ true
     says_at_on script place says = line_on (slice_get script place) says
+
+-- the same is left again once time passed
+pub same_passed : (script : List Line) (names more : Renaming) (at at_too : ℕ) (made made_too : TaskNo) (now : ℤ) (one other : Rest)
+    → SameRest script names one other → KnowsMore names more (Tick now) at at_too made made_too
+    → SameRest script more (rest one.left one.names) (rest other.left other.names)
+same_passed script names more at at_too made made_too now one other same known = record {
+  left = same.left;
+  declared = same.declared;
+  alike = all_on (says_alike_at script names one.names other.names) (says_alike_at script more one.names other.names) one.left
+      (says_at_on names more at at_too made made_too (Tick now) known one.names other.names same.declared script) same.alike;
+}
 
 -- the same is left again without the line at a place, and with what it binds
 pub same_on : (script : List Line) (names more : Renaming) (place at at_too : ℕ) (made made_too : TaskNo) (line : Line) (one other : Rest)

@@ -12,7 +12,8 @@ use Rattle.ada_schedules.specs.Schedules.{State, Acts, Comes}
 use Rattle.ada_schedules.specs.Closed.{asked_in, Covers}
 use Rattle.ada_schedules.specs.Stuck.{IsStuck}
 use Rattle.ada_explore.specs.declared.turns.Turn.{Turn}
-use Rattle.ada_explore.specs.declared.turns.Picks.{Picks}
+use Rattle.ada_explore.specs.declared.turns.Turn.TheVariants.{Line as Say, Time as Pass}
+use Rattle.ada_explore.specs.declared.turns.Freedom.{Freedom}
 use Rattle.ada_explore.specs.declared.wanted.Wanted.{Wanted}
 use Rattle.ada_explore.specs.declared.wanted.Wanted.TheVariants.{Free, Left}
 use Rattle.ada_explore.specs.Scripts.{Rest, scripted, may_come}
@@ -34,54 +35,59 @@ pub record IsAlike (script : List Line) (old new : State Rest) (names : Renaming
   pub alike : list_all (says_alike_at script names old.rest.names new.rest.names) old.rest.left ≡ true
 
 -- one of these schedules, each by its turns in their order, leads to the state
-pub record IsWithin (picks : Picks) (script : List Line) (paths : List (List Turn)) (state : State Rest) : Type 0 where
+pub record IsWithin (freedom : Freedom) (script : List Line) (paths : List (List Turn)) (state : State Rest) : Type 0 where
   pub at : ℕ
   pub path : List Turn
   pub is : slice_get paths at ≡ Some path
-  pub comes : Comes (scripted picks script) (reverse path) state
+  pub comes : Comes (scripted freedom script) (reverse path) state
 
 -- a state to which one of them leads stands in for this one
-abbrev pub AreCovering : Picks → List Line → List (List Turn) → State Rest → Type 0
-AreCovering picks script paths state = Covers (scripted picks script) (SameRest script) (IsWithin picks script paths) state
+abbrev pub AreCovering : Freedom → List Line → List (List Turn) → State Rest → Type 0
+AreCovering freedom script paths state = Covers (scripted freedom script) (SameRest script) (IsWithin freedom script paths) state
 
 -- the schedules that there were are there still, at their places
 abbrev pub AreKept : List (List Turn) → List (List Turn) → Type 0
 AreKept old new = (i : ℕ) (path : List Turn) → slice_get old i ≡ Some path → slice_get new i ≡ Some path
 
 -- a turn may come in a state, and leads to what is covered
-pub record LeadsOn (picks : Picks) (script : List Line) (paths : List (List Turn)) (state : State Rest) (turn : Turn) : Type 0 where
+pub record LeadsOn (freedom : Freedom) (script : List Line) (paths : List (List Turn)) (state : State Rest) (turn : Turn) : Type 0 where
   pub to : State Rest
-  pub acts : Acts (scripted picks script) turn state to
-  pub covered : AreCovering picks script paths to
+  pub acts : Acts (scripted freedom script) turn state to
+  pub covered : AreCovering freedom script paths to
 
 -- so it does after a schedule
-pub record LeadsOnAfter (picks : Picks) (script : List Line) (paths : List (List Turn)) (path : List Turn) (turn : Turn) : Type 0 where
+pub record LeadsOnAfter (freedom : Freedom) (script : List Line) (paths : List (List Turn)) (path : List Turn) (turn : Turn) : Type 0 where
   pub from : State Rest
-  pub comes : Comes (scripted picks script) (reverse path) from
-  pub leads : LeadsOn picks script paths from turn
+  pub comes : Comes (scripted freedom script) (reverse path) from
+  pub leads : LeadsOn freedom script paths from turn
 
 -- the line at a place with a pick
 abbrev pub turn_of : ℕ → Option ℕ → Turn
-turn_of place pick = record { place = place; pick = pick }
+turn_of place pick = Say place pick
 
 -- the line at a place leads to what is covered after a schedule, with each pick that it may have
-abbrev pub AllLeadOn : Picks → List Line → List (List Turn) → List Turn → ℕ → Type 0
-AllLeadOn picks script paths path place =
-    (pick : Option ℕ) → may_have picks script place pick ≡ true → LeadsOnAfter picks script paths path (turn_of place pick)
+abbrev pub AllLeadOn : Freedom → List Line → List (List Turn) → List Turn → ℕ → Type 0
+AllLeadOn freedom script paths path place =
+    (pick : Option ℕ) → may_have freedom.picks script place pick ≡ true → LeadsOnAfter freedom script paths path (turn_of place pick)
 
 -- so it does as it is written, and with each of these that is below a number. The schedules that there were are there still
-pub record LeadOnBelow (picks : Picks) (script : List Line) (old new : List (List Turn)) (path : List Turn) (place count : ℕ) : Type 0 where
+pub record LeadOnBelow (freedom : Freedom) (script : List Line) (old new : List (List Turn)) (path : List Turn) (place count : ℕ) : Type 0 where
   pub kept : AreKept old new
-  pub written : LeadsOnAfter picks script new path (turn_of place None)
-  pub others : (pick : ℕ) → pick < count → may_have picks script place (Some pick) ≡ true
-      → LeadsOnAfter picks script new path (turn_of place (Some pick))
+  pub written : LeadsOnAfter freedom script new path (turn_of place None)
+  pub others : (pick : ℕ) → pick < count → may_have freedom.picks script place (Some pick) ≡ true
+      → LeadsOnAfter freedom script new path (turn_of place (Some pick))
 
 -- each of the first so many lines that are left and may come leads to what is covered, after a schedule. The schedules that
 -- there were are there still
-pub record AreCovered (picks : Picks) (script : List Line) (old new : List (List Turn)) (path : List Turn) (state : State Rest) (count : ℕ) : Type 0 where
+pub record AreCovered (freedom : Freedom) (script : List Line) (old new : List (List Turn)) (path : List Turn) (state : State Rest) (count : ℕ) : Type 0 where
   pub kept : AreKept old new
   pub leads : (k place : ℕ) → k < count → slice_get state.rest.left k ≡ Some place → may_come script state.journal state.rest place ≡ true
-      → AllLeadOn picks script new path place
+      → AllLeadOn freedom script new path place
+
+-- if time may pass in a state to which a schedule leads, that leads to what is covered
+abbrev pub TimeLeadsOn : Freedom → List Line → List (List Turn) → List Turn → State Rest → Type 0
+TimeLeadsOn freedom script paths path state =
+    (request : Request) → asked_in (scripted freedom script) state Pass ≡ Some request → LeadsOnAfter freedom script paths path Pass
 
 -- a state is as is wanted: it isn't stuck, or the lines at some places are left
 abbrev pub IsWell : Wanted → State Rest → Type 0
@@ -89,31 +95,31 @@ IsWell Free state = IsStuck state.journal → ⊥
 IsWell (Left places) state = list_all (is_unsaid state.rest) places.items ≡ true
 
 -- a state is lawful, settled and as is wanted, and whatever may come next leads to what is covered
-pub record GoesOnWell (picks : Picks) (script : List Line) (wanted : Wanted) (paths : List (List Turn)) (state : State Rest) : Type 0 where
+pub record GoesOnWell (freedom : Freedom) (script : List Line) (wanted : Wanted) (paths : List (List Turn)) (state : State Rest) : Type 0 where
   pub lawful : IsLawful state.journal
   pub settled : IsSettled state.journal
   pub well : IsWell wanted state
-  pub steps : (turn : Turn) (request : Request) → asked_in (scripted picks script) state turn ≡ Some request → LeadsOn picks script paths state turn
+  pub steps : (turn : Turn) (request : Request) → asked_in (scripted freedom script) state turn ≡ Some request → LeadsOn freedom script paths state turn
 
 -- a schedule leads to such a state
-pub record IsDone (picks : Picks) (script : List Line) (wanted : Wanted) (paths : List (List Turn)) (path : List Turn) : Type 0 where
+pub record IsDone (freedom : Freedom) (script : List Line) (wanted : Wanted) (paths : List (List Turn)) (path : List Turn) : Type 0 where
   pub state : State Rest
-  pub comes : Comes (scripted picks script) (reverse path) state
-  pub well : GoesOnWell picks script wanted paths state
+  pub comes : Comes (scripted freedom script) (reverse path) state
+  pub well : GoesOnWell freedom script wanted paths state
 
 -- what a schedule leads to is covered
-pub record IsBegun (picks : Picks) (script : List Line) (start : List Turn) (paths : List (List Turn)) : Type 0 where
+pub record IsBegun (freedom : Freedom) (script : List Line) (start : List Turn) (paths : List (List Turn)) : Type 0 where
   pub from : State Rest
-  pub comes : Comes (scripted picks script) (reverse start) from
-  pub covered : AreCovering picks script paths from
+  pub comes : Comes (scripted freedom script) (reverse start) from
+  pub covered : AreCovering freedom script paths from
 
 -- so it is, and what so many of the schedules lead to is done
-pub record AreDone (picks : Picks) (script : List Line) (wanted : Wanted) (start : List Turn) (paths : List (List Turn)) (count : ℕ) : Type 0 where
-  pub begun : IsBegun picks script start paths
-  pub done : (i : ℕ) (path : List Turn) → i < count → slice_get paths i ≡ Some path → IsDone picks script wanted paths path
+pub record AreDone (freedom : Freedom) (script : List Line) (wanted : Wanted) (start : List Turn) (paths : List (List Turn)) (count : ℕ) : Type 0 where
+  pub begun : IsBegun freedom script start paths
+  pub done : (i : ℕ) (path : List Turn) → i < count → slice_get paths i ≡ Some path → IsDone freedom script wanted paths path
 
 -- a schedule leads to a state from which on all is as is wanted, whatever comes
-pub record StaysWell (picks : Picks) (script : List Line) (wanted : Wanted) (start : List Turn) : Type 0 where
+pub record StaysWell (freedom : Freedom) (script : List Line) (wanted : Wanted) (start : List Turn) : Type 0 where
   pub from : State Rest
-  pub comes : Comes (scripted picks script) (reverse start) from
-  pub well : (more : List Turn) (to : State Rest) → Comes (scripted picks script) (more ++ reverse start) to → IsWell wanted to
+  pub comes : Comes (scripted freedom script) (reverse start) from
+  pub well : (more : List Turn) (to : State Rest) → Comes (scripted freedom script) (more ++ reverse start) to → IsWell wanted to

@@ -99,7 +99,8 @@ activated_alike old new names stands orderly also =
     (and_parts (is_pending new q s.by) (list_all (is_done_activating new) s.tasks)
     (if_some (is_pending new q s.by && list_all (is_done_activating new) s.tasks)
     (Some (Activated q (not (list_any (λ (t : TaskNo). has_failed new t.0) s.tasks)))) y gives).0).0)
-    both_starts (λ p q pair. starts_alike old new names p q pair.held.event pair.holds.event pair.alike)
+    (λ p q d e s r x y at there apart says has gives makes. both_starts d e s r says has)
+    (λ p q pair. starts_alike old new names p q pair.held.event pair.holds.event pair.alike)
     (λ p q pair s r is has same.
     ends_alike names p q
     (is_pending old p s.by && list_all (is_done_activating old) s.tasks)

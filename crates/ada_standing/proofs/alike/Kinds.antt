@@ -1,9 +1,10 @@
 -- Kinds of events that hold tasks up: what holds up alike is of one kind, and says the same.
-use Rattle.std.proofs.Common.{◌≡◌, ℕ, true, Option, Some, None, List, refl, sym, ◌≢◌}
+use Rattle.std.proofs.Common.{◌≡◌, ℕ, true, Option, Some, None, List, refl, sym, ◌≢◌, is_some}
 use Rattle.std.proofs.lemmas.Option.{none-some}
 use Rattle.ada_events.specs.declared.event.Event.{Event}
 use Rattle.ada_events.specs.declared.event.Event.TheVariants as event
 use Rattle.ada_events.specs.Says.{Call, Wait, Delay, Start, Closing, call_in, wait_in, delay_in, start_in, closing_in}
+use Rattle.ada_events.specs.Waits.{tail_due}
 use Rattle.ada_standing.specs.Renaming.{Renaming}
 use Rattle.ada_standing.specs.Holds.{IsSameCall, IsSameWait, IsSameStart, IsSameHold, is_same_kind}
 
@@ -144,8 +145,9 @@ closes_alike old new names p q d e (IsSameHold.start s r is has same) =
 pub both_calls : (d e : Event) (c b : Call) → call_in d ≡ Some c → call_in e ≡ Some b → is_same_kind d e ≡ true
 both_calls d e c b is has = rw (is, has) refl
 
-pub both_waits : (d e : Event) (w v : Wait) → wait_in d ≡ Some w → wait_in e ≡ Some v → is_same_kind d e ≡ true
-both_waits d e w v is has = rw (is, has, no_call d 2 (wait_kind d w is) (λ one. absurd cc)) refl
+pub both_waits : (d e : Event) (w v : Wait) → wait_in d ≡ Some w → wait_in e ≡ Some v → is_some (tail_due w.tail) ≡ true
+    → is_some (tail_due v.tail) ≡ true → is_same_kind d e ≡ true
+both_waits d e w v is has timed also = rw (is, has, timed, also, no_call d 2 (wait_kind d w is) (λ one. absurd cc)) refl
 
 pub both_delays : (d e : Event) (a b : Delay) → delay_in d ≡ Some a → delay_in e ≡ Some b → is_same_kind d e ≡ true
 both_delays d e a b is has =

@@ -1,5 +1,5 @@
 -- What holds tasks up in one journal and in another, position by position.
-use Rattle.std.proofs.Common.{◌≡◌, ℕ, ◌<◌, true, false, not, Option, Some, None, List, refl, sym, ap, ◌∙◌, subst, inl, inr}
+use Rattle.std.proofs.Common.{◌≡◌, ℕ, ◌<◌, true, false, not, Option, Some, None, List, refl, sym, ap, ◌∙◌, subst, arith, inl, inr, ◌≢◌}
 use Rattle.std.specs.Option.{option_map, option_and_then}
 use Rattle.std.proofs.lemmas.Bool.{cases_Bool, and_from, and_parts, or_parts, lt-ltb, ltb-true, not_from_false, not-true}
 use Rattle.std.proofs.lemmas.Option.{same_Some, none-some}
@@ -111,9 +111,11 @@ map_back f g (Some x) n y same is = (x, refl)
 abbrev pub GivesHeld : List Event → (ℕ → Event → Option Event) → Type 0
 GivesHeld journal give = (p : ℕ) (d x : Event) → event_at journal p ≡ Some d → give p d ≡ Some x → (u : ℕ) × IsSuspendedAt journal u p
 
--- and only of events of one kind
-abbrev pub GivesOneKind : (ℕ → Event → Option Event) → Type 0
-GivesOneKind give = (p q : ℕ) (d e x y : Event) → give p d ≡ Some x → give q e ≡ Some y → is_same_kind d e ≡ true
+-- and if of several, only of events of one kind
+abbrev pub GivesOneKind : List Event → (ℕ → Event → Option Event) → Type 0
+GivesOneKind journal give =
+    (p q : ℕ) (d e x y : Event) → event_at journal p ≡ Some d → event_at journal q ≡ Some e → p ≢ q → give p d ≡ Some x → give q e ≡ Some y
+    → is_same_kind d e ≡ true
 
 -- of each pair both journals give alike
 abbrev pub GiveAlike : List Event → List Event → Renaming → (Event → Option Event) → (ℕ → Event → Option Event) → (ℕ → Event → Option Event) → Type 0
@@ -142,7 +144,7 @@ match_back old new names same give there stands orderly also held alike q y give
     let (x, has) = map_back same Some (give p pair.held.event) (there q pair.holds.event) y (alike p q pair) here in
     (p, x, pair.placed, ap (option_and_then (give p)) pair.held.stands ∙ has)
 
-match_rises : (old new : List Event) (names : Renaming) (give : ℕ → Event → Option Event) → StandsIn old new names → GivesHeld old give → GivesOneKind give
+match_rises : (old new : List Event) (names : Renaming) (give : ℕ → Event → Option Event) → StandsIn old new names → GivesHeld old give → GivesOneKind old give
     → (p q a b : ℕ) (x y : Event) → given_at give old p ≡ Some x → given_at give old q ≡ Some y → names.position p ≡ Some a → names.position q ≡ Some b
     → p < q → a < b
 match_rises old new names give stands held kinds p q a b x y gives_p gives_q at_a at_b less =
@@ -153,11 +155,12 @@ match_rises old new names give stands held kinds p q a b x y gives_p gives_q at_
     let same_p : one.event ≡ d = same_Some one.event d (sym one.stands ∙ stands_p) in
     let same_q : other.event ≡ e = same_Some other.event e (sym other.stands ∙ stands_q) in
     stands.positions.holds s t p q a b one other
-    (kinds p q one.event other.event x y (ap (give p) same_p ∙ is) (ap (give q) same_q ∙ has)) at_a at_b less
+    (kinds p q one.event other.event x y one.stands other.stands (λ same. absurd (omega (arith, same, less))) (ap (give p) same_p ∙ is)
+    (ap (give q) same_q ∙ has)) at_a at_b less
 
 -- the first of two journals gives what the second gives, where it gives only where tasks are held up
 pub first_alike : (old new : List Event) (names : Renaming) (same : Event → Option Event) (give there : ℕ → Event → Option Event) → StandsIn old new names
-    → IsOrderly old → IsOrderly new → GivesHeld old give → GivesHeld new there → GivesOneKind give → GiveAlike old new names same give there
+    → IsOrderly old → IsOrderly new → GivesHeld old give → GivesHeld new there → GivesOneKind old give → GiveAlike old new names same give there
     → option_map same (first_given give old) ≡ option_map Some (first_given there new)
 first_alike old new names same give there stands orderly also held holds kinds alike =
     search_alike names.position same (given_at give old) (given_at there new) (first_given give old) (first_given there new)

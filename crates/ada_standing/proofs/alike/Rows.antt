@@ -1,5 +1,5 @@
 -- The rows that search for a position: what one journal forces, renamed, is what the other forces.
-use Rattle.std.proofs.Common.{◌≡◌, ℕ, Bool, true, false, not, ◌&&◌, ◌||◌, Option, Some, None, List, refl, sym, ap, ◌∙◌, inl, inr, int_le}
+use Rattle.std.proofs.Common.{◌≡◌, ℕ, Bool, true, false, not, ◌&&◌, ◌||◌, Option, Some, None, List, refl, sym, ap, ◌∙◌, inl, inr, int_le, ◌≢◌}
 use Rattle.std.specs.Option.{option_map, option_and_then}
 use Rattle.std.specs.Bool.{then_some}
 use Rattle.std.proofs.lemmas.Bool.{cases_Bool, and_parts, and_right, not_from_true}
@@ -17,6 +17,7 @@ use Rattle.ada_events.specs.Waits.{is_due, taken_call, way_of}
 use Rattle.ada_events.specs.Termination.{all_terminated}
 use Rattle.ada_events.specs.Forced.{is_conditional, is_to_fail, failed, met_at, met, is_to_cancel, cancelled, passed_at, passed, is_to_wake, woken}
 use Rattle.ada_events.specs.Forced.{is_to_leave, left}
+use Rattle.ada_laws.specs.Calls.{IsWaitAt}
 use Rattle.ada_laws.specs.Suspension.{IsSuspendedAt}
 use Rattle.ada_laws.proofs.searching.Searching.{option_map_or-true, option_and_then-some, then_some-some, if_some}
 use Rattle.ada_laws.proofs.searching.Saying.{held_in-wait, held_in-delay, held_in-closing}
@@ -52,9 +53,15 @@ said_held journal say give held p d y at gives =
     let (x, says, is) = option_and_then-some (give p) (say d) y gives in
     held p d x y at says is
 
+-- and if at several positions, only by events of one kind
+abbrev pub AreOneKind : {X : Type 0} → List Event → (Event → Option X) → (ℕ → X → Option Event) → Type 0
+AreOneKind {X} journal say give =
+    (p q : ℕ) (d e : Event) (x y : X) (a b : Event) → event_at journal p ≡ Some d → event_at journal q ≡ Some e → p ≢ q → say d ≡ Some x
+    → say e ≡ Some y → give p x ≡ Some a → give q y ≡ Some b → is_same_kind d e ≡ true
+
 pub said_alike : {X : Type 0} (old new : List Event) (names : Renaming) (say : Event → Option X) (give there : ℕ → X → Option Event)
     (Same : ℕ → ℕ → X → X → Type 0) → StandsIn old new names → IsOrderly old → IsOrderly new → AreHeld old say give → AreHeld new say there
-    → ((d e : Event) (x y : X) → say d ≡ Some x → say e ≡ Some y → is_same_kind d e ≡ true)
+    → AreOneKind old say give
     → ((p q : ℕ) (pair : IsPair old new names p q) → AreBoth (Same p q) (say pair.held.event) (say pair.holds.event))
     → ((p q : ℕ) (pair : IsPair old new names p q) (x y : X) → say pair.held.event ≡ Some x → say pair.holds.event ≡ Some y → Same p q x y
     → AreAlike names (give p x) (there q y))
@@ -62,10 +69,10 @@ pub said_alike : {X : Type 0} (old new : List Event) (names : Renaming) (say : E
 said_alike old new names say give there Same stands orderly also held holds kinds both alike =
     first_alike old new names (renamed_event names) (λ p e. option_and_then (give p) (say e)) (λ q e. option_and_then (there q) (say e)) stands orderly also
     (said_held old say give held) (said_held new say there holds)
-    (λ p q d e x y one other.
+    (λ p q d e x y at there apart one other.
     let (c, says, is) = option_and_then-some (give p) (say d) x one in
     let (b, has, makes) = option_and_then-some (give q) (say e) y other in
-    kinds d e c b says has)
+    kinds p q d e c b x y at there apart says has is makes)
     (λ p q pair.
     elim (both p q pair) [
       | AreBoth.both x y is has same ↦ rw (is, has) (alike p q pair x y is has same)
@@ -121,7 +128,7 @@ unfolding failed renamed_event
 failed_alike old new names stands orderly also =
     first_alike old new names (renamed_event names) (λ p e. then_some (is_to_fail old p e) (Failed p)) (λ q e. then_some (is_to_fail new q e) (Failed q))
     stands orderly also (to_fail_held old) (to_fail_held new)
-    (λ p q d e x y one other.
+    (λ p q d e x y at there apart one other.
     let (c, says) = to_fail_call old p d x one in
     let (b, has) = to_fail_call old q e y other in
     both_calls d e c b says has)
@@ -148,7 +155,9 @@ met_alike old new names stands orderly also =
     pending_held old w.by p e at (held_in-wait e w says) (if_some (is_pending old p w.by) (option_map (λ call. Met call p) (taken_call old w)) y gives).0)
     (λ q e w y at says gives.
     pending_held new w.by q e at (held_in-wait e w says) (if_some (is_pending new q w.by) (option_map (λ call. Met call q) (taken_call new w)) y gives).0)
-    both_waits (λ p q pair. waits_alike old new names p q pair.held.event pair.holds.event pair.alike)
+    (λ p q d e w v x y at there apart says has gives makes.
+    absurd (apart (orderly.meets p q w v x y (record { event = d; stands = at; says = says }) (record { event = e; stands = there; says = has }) gives makes)))
+    (λ p q pair. waits_alike old new names p q pair.held.event pair.holds.event pair.alike)
     (λ p q pair w x is has same.
     let by : w.by ≡ pair.task = wait_by old pair.task p pair.held w is in
     let also_by : x.by ≡ pair.stand = wait_by new pair.stand q pair.holds x has in
@@ -203,7 +212,7 @@ unfolding cancelled renamed_event
 cancelled_alike old new names stands orderly also =
     first_alike old new names (renamed_event names) (λ p e. then_some (is_to_cancel old p e) (Cancelled p))
     (λ q e. then_some (is_to_cancel new q e) (Cancelled q)) stands orderly also (to_cancel_held old) (to_cancel_held new)
-    (λ p q d e x y one other.
+    (λ p q d e x y at there apart one other.
     let (c, says) = to_cancel_call old p d x one in
     let (b, has) = to_cancel_call old q e y other in
     both_calls d e c b says has)
@@ -229,7 +238,12 @@ passed_alike old new names stands orderly also =
     (λ q e w y at says gives.
     pending_held new w.by q e at (held_in-wait e w says)
     (if_some (is_pending new q w.by) (option_map (Passed q) (way_of (moment new) w.choices w.pick w.tail)) y gives).0)
-    both_waits (λ p q pair. waits_alike old new names p q pair.held.event pair.holds.event pair.alike)
+    (λ p q d e w v x y at there apart says has gives makes.
+    let one : IsWaitAt old w p = record { event = d; stands = at; says = says } in
+    let other : IsWaitAt old v q = record { event = e; stands = there; says = has } in
+    both_waits d e w v says has (orderly.passes p q w v x y one other gives makes apart)
+    (orderly.passes q p v w y x other one makes gives (λ same. apart (sym same))))
+    (λ p q pair. waits_alike old new names p q pair.held.event pair.holds.event pair.alike)
     (λ p q pair w x is has same.
     rw (
       pending_by old pair.task w.by p pair.held (held_in-wait pair.held.event w is),
@@ -264,7 +278,8 @@ woken_alike old new names stands orderly also =
     pending_held old d.by p e at (held_in-delay e d says) (to_wake_pending old p d (then_some-some (is_to_wake old p d) (Woken p) y gives).0))
     (λ q e d y at says gives.
     pending_held new d.by q e at (held_in-delay e d says) (to_wake_pending new q d (then_some-some (is_to_wake new q d) (Woken q) y gives).0))
-    both_delays (λ p q pair. delays_alike old new names p q pair.held.event pair.holds.event pair.alike)
+    (λ p q d e a b x y at there apart says has gives makes. both_delays d e a b says has)
+    (λ p q pair. delays_alike old new names p q pair.held.event pair.holds.event pair.alike)
     (λ p q pair a b is has same.
     then_alike names (is_to_wake old p a) (is_to_wake new q b) (Woken p) (Woken q) (to_wake_alike old new names p q pair a b stands is has same)
     (ap (option_map Woken) pair.placed))
@@ -295,7 +310,8 @@ left_alike old new names stands orderly also =
     pending_held old c.by p e at (held_in-closing e c says) (to_leave_pending old p c (then_some-some (is_to_leave old p c) (Left p) y gives).0))
     (λ q e c y at says gives.
     pending_held new c.by q e at (held_in-closing e c says) (to_leave_pending new q c (then_some-some (is_to_leave new q c) (Left q) y gives).0))
-    both_closes (λ p q pair. closes_alike old new names p q pair.held.event pair.holds.event pair.alike)
+    (λ p q d e a b x y at there apart says has gives makes. both_closes d e a b says has)
+    (λ p q pair. closes_alike old new names p q pair.held.event pair.holds.event pair.alike)
     (λ p q pair a b is has same.
     then_alike names (is_to_leave old p a) (is_to_leave new q b) (Left p) (Left q) (to_leave_alike old new names p q pair a b stands orderly also is has same)
     (ap (option_map Left) pair.placed))

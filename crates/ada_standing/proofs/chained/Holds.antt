@@ -3,7 +3,9 @@ use Rattle.std.proofs.Common.{◌≡◌, ℕ, Option, Some, List, refl, sym, ap,
 use Rattle.std.specs.Option.{option_and_then}
 use Rattle.std.proofs.lemmas.Option.{same_Some, none-some}
 use Rattle.ada_events.specs.declared.event.Event.{Event}
-use Rattle.ada_events.specs.Says.{Call, Start, call_in, wait_in, delay_in, start_in, closing_in}
+use Rattle.ada_events.specs.Search.{is_some_and}
+use Rattle.ada_events.specs.Says.{Call, Start, Wait, call_in, wait_in, delay_in, start_in, closing_in}
+use Rattle.ada_events.specs.Waits.{tail_due}
 use Rattle.ada_laws.proofs.searching.Searching.{option_and_then-some}
 use Rattle.ada_standing.specs.Renaming.{Renaming, chained}
 use Rattle.ada_standing.specs.Holds.{IsSameCall, IsSameWait, IsSameStart, IsSameHold, is_same_kind}
@@ -20,6 +22,11 @@ said_alike : {X : Type 0} (Same : X → X → Type 0) (a b : Option X) → AreBo
 said_alike Same a b (AreBoth.both x y is has same) = rw (is, has) refl
 said_alike Same a b (AreBoth.neither none also) = rw (none, also) refl
 
+timed_alike : (a b : Option Wait) → AreBoth IsSameWait a b
+    → is_some_and b (λ (w : Wait). is_some (tail_due w.tail)) ≡ is_some_and a (λ (w : Wait). is_some (tail_due w.tail))
+timed_alike a b (AreBoth.both w v is has same) = rw (is, has, same.tail) refl
+timed_alike a b (AreBoth.neither none also) = rw (none, also) refl
+
 -- what is of one kind is held up by what is of one kind
 pub kind_alike : (old new : List Event) (names : Renaming) (p q a b : ℕ) (d e f g : Event) → IsSameHold old new names p a d f
     → IsSameHold old new names q b e g → is_same_kind f g ≡ is_same_kind d e
@@ -27,8 +34,8 @@ kind_alike old new names p q a b d e f g one other =
     rw (
       said_alike (IsSameCall old new names p a) (call_in d) (call_in f) (calls_alike old new names p a d f one),
       said_alike (IsSameCall old new names q b) (call_in e) (call_in g) (calls_alike old new names q b e g other),
-      said_alike IsSameWait (wait_in d) (wait_in f) (waits_alike old new names p a d f one),
-      said_alike IsSameWait (wait_in e) (wait_in g) (waits_alike old new names q b e g other),
+      timed_alike (wait_in d) (wait_in f) (waits_alike old new names p a d f one),
+      timed_alike (wait_in e) (wait_in g) (waits_alike old new names q b e g other),
       said_alike AreDueAlike (delay_in d) (delay_in f) (delays_alike old new names p a d f one),
       said_alike AreDueAlike (delay_in e) (delay_in g) (delays_alike old new names q b e g other),
       said_alike (IsSameStart old new names) (start_in d) (start_in f) (starts_alike old new names p a d f one),

@@ -8,6 +8,7 @@ use Rattle.ada_standing.proofs.alike.Orderly.{IsOrderly}
 use Rattle.ada_standing.proofs.lawful.Climbing.{climb_of}
 use Rattle.ada_standing.proofs.lawful.Living.{masters_lived_in, parents_lived_in}
 use Rattle.ada_standing.proofs.lawful.Starting.{started_exist}
+use Rattle.ada_standing.proofs.lawful.Waiting.{one_wait_takes, waits_end_timed}
 
 pub lawful_orderly : (journal : List Event) → IsLawfulUnlimited journal → IsOrderly journal
 lawful_orderly journal lawful = record {
@@ -19,4 +20,6 @@ lawful_orderly journal lawful = record {
   masters = λ u x live depends. masters_lived_in journal u x lawful live depends;
   parents = λ p z lived is. parents_lived_in journal p z lawful lived is;
   starts = λ p task e s at says among. started_exist journal p task e s lawful at says among;
+  meets = λ p q w v x y at there takes also. one_wait_takes journal p q w v x y lawful at there takes also;
+  passes = λ p q w v x y at there ends also apart. waits_end_timed journal p q w v x y lawful at there ends also apart;
 }

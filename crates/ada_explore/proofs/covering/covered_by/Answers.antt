@@ -5,4 +5,4 @@ use Rattle.ada_explore.proofs.covering.covered_by.Goals as goal
 pub returns : goal.returns
 returns g c =
     ok_then c.cover_all.result _ _
-    (λ found stays. some_then found _ _ (λ states well. none_gets_stuck c.args.space.picks c.args.space.script.now well) stays) c.cover_all.ensures
+    (λ found stays. some_then found _ _ (λ states well. none_gets_stuck c.args.space.freedom c.args.space.script.now well) stays) c.cover_all.ensures

@@ -25,4 +25,4 @@ returns-in_err-read_statement-clause-err c =
     let skipped = ap is_skipped (sym c.new-words.ensures) ∙ sym c.is_skipped.ensures ∙ c.if-is_skipped.false in
     let plain = c.in_ok-check_line.ensures.ok in
     let fails = of_these c.args.names.now fault c.new-words.ensures c.in_err-read_statement.ensures.err in
-    rw (p.1, p.2) (words_fail c.args.names.now c.args.lines.now.items c.args.number c.args.line.now fault c.requires plain skipped fails)
+    rw (p.1, p.2) (words_fail c.args.most c.args.names.now c.args.lines.now.items c.args.number c.args.line.now fault c.requires plain skipped fails)

@@ -4,15 +4,15 @@ use Rattle.ada_explore.proofs.Acting.{may_ask, accepts_line, refuses_line}
 use Rattle.ada_explore.proofs.standing.Standing.perform.Goals as goal
 
 pub returns-in-Ok : goal.returns-in-Ok
-returns-in-Ok c picks may has =
-    accepts_line picks _ _ _ _ _ _ _ _ c.in-Ok.at _ c.in-Some.request
-    (may_ask picks c.args.script.now c.args.self.now.kernel c.args.self.now.left.items c.args.self.now.names c.args.turn _ may has
-    (sym c.request_of.ensures ∙ c.in-Some.is))
-    (rw c.bind.ensures.kernel c.in-Ok.ensures.ok) (ap task_no c.tasks.ensures) (c.bind.ensures.left ∙ c.take_out.ensures) c.bind.ensures.names
+returns-in-Ok c freedom may =
+    accepts_line freedom _ _ _ _ _ _ _ _ c.in-Ok.at _ c.in-Some.request
+    (may_ask freedom c.args.script.now c.args.self.now.kernel c.args.self.now.left.items c.args.self.now.names c.args.turn _ may
+    (sym c.request_in.ensures ∙ c.in-Some.is))
+    (rw c.bind.ensures.kernel c.in-Ok.ensures.ok) (ap task_no c.tasks.ensures) (c.bind.ensures.left ∙ c.take.ensures) c.bind.ensures.names
 
 pub returns-in_ok-of_the_rules-in-Err : goal.returns-in_ok-of_the_rules-in-Err
-returns-in_ok-of_the_rules-in-Err c picks may has =
-    refuses_line picks _ _ _ _ _ _ _ c.in-Some.request c.in-Err.cause
-    (may_ask picks c.args.script.now c.args.self.now.kernel c.args.self.now.left.items c.args.self.now.names c.args.turn _ may has
-    (sym c.request_of.ensures ∙ c.in-Some.is)) c.in-Err.ensures.err
-    c.in_ok-of_the_rules-in-Err.ensures.0 c.in_ok-of_the_rules-in-Err.ensures.1 c.take_out.ensures
+returns-in_ok-of_the_rules-in-Err c freedom may =
+    refuses_line freedom _ _ _ _ _ _ _ c.in-Some.request c.in-Err.cause
+    (may_ask freedom c.args.script.now c.args.self.now.kernel c.args.self.now.left.items c.args.self.now.names c.args.turn _ may
+    (sym c.request_in.ensures ∙ c.in-Some.is)) c.in-Err.ensures.err
+    c.in_ok-of_the_rules-in-Err.ensures.0 c.in_ok-of_the_rules-in-Err.ensures.1 c.take.ensures
