@@ -167,6 +167,7 @@ pub fn explore<W: Watch>(space: Space<'_>, most: u32, watch: &mut W) -> Result<F
         Some(_) => None,
         None => covered(space, &search, most, watch)?,
     };
+    let refused = search.refused()?;
     Ok(Finding {
         stuck,
         stopped,
@@ -175,7 +176,7 @@ pub fn explore<W: Watch>(space: Space<'_>, most: u32, watch: &mut W) -> Result<F
         stuck_states: search.stuck,
         short_states: search.short,
         steps: search.taken,
-        refused: search.refused,
+        refused,
         end: search.end,
     })
 }

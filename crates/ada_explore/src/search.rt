@@ -39,15 +39,15 @@ pub enum End {
 }
 
 /// A line that some schedules say in vain.
-#[derive(Clone, Copy, Debug, PartialEq, Eq)]
+#[derive(Drop)]
 pub struct Refused {
     /// Its place in the script, from 0.
     pub place: u16,
     pub cause: Refusal,
     /// In how many steps it is refused for this cause.
     pub steps: u64,
-    /// The length of the shortest schedule in which it is, with that line.
-    pub after: u32,
+    /// A schedule in which it is, which ends with that line; none that was met is shorter.
+    pub path: Vec<Turn>,
 }
 
 /// What a search met.
@@ -73,8 +73,8 @@ pub(crate) struct Search {
     pub(crate) short: u32,
     /// How many steps were taken.
     pub(crate) taken: u64,
-    /// The lines that were refused, the first one first.
-    pub(crate) refused: Vec<Refused>,
+    /// The steps whose lines were refused, of each line and cause the first one.
+    refused: Vec<FirstRefused>,
     /// Which states lead to which, in the order of those that lead.
     leads: Vec<Lead>,
     /// The states in which no line may come, with the lines that their tasks would say if they went on.
@@ -86,6 +86,16 @@ pub(crate) struct Search {
 struct Step {
     from: u32,
     turn: Turn,
+}
+
+// The first step at which a line was refused for a cause.
+#[derive(Clone, Copy, Debug, PartialEq, Eq)]
+struct FirstRefused {
+    place: u16,
+    cause: Refusal,
+    step: Step,
+    /// At how many steps it was.
+    count: u64,
 }
 
 // One state leads to another.
@@ -216,9 +226,6 @@ impl Search {
         if choices.is_empty() {
             self.end_at(space.script.lines(), state, &standing)?;
         }
-        let after = u32::try_from(path.len())
-            .unwrap_or(u32::MAX)
-            .saturating_add(1);
         let Some((last, others)) = choices.split_last() else {
             return Ok(());
         };
@@ -228,13 +235,13 @@ impl Search {
                 from: state,
                 turn: *turn,
             };
-            self.step(space.script.lines(), from, step, after)?;
+            self.step(space.script.lines(), from, step)?;
         }
         let step = Step {
             from: state,
             turn: *last,
         };
-        self.step(space.script.lines(), standing, step, after)
+        self.step(space.script.lines(), standing, step)
     }
 
     // Notes a state in which no line may come.
@@ -248,21 +255,15 @@ impl Search {
             .map_err(|_| Halt::Memory)
     }
 
-    // Takes a step, after which a schedule has this length.
-    fn step(
-        &mut self,
-        script: &[Line],
-        from: Standing,
-        step: Step,
-        after: u32,
-    ) -> Result<(), Halt> {
+    // Takes a step.
+    fn step(&mut self, script: &[Line], from: Standing, step: Step) -> Result<(), Halt> {
         self.taken = self.taken.saturating_add(1);
         let mut standing = from;
         match standing.perform(script, step.turn) {
             Ok(None) => self.lead(script, standing, step),
             Ok(Some(cause)) => {
                 if let Some(place) = step.turn.place() {
-                    self.note_refused(place, cause, after)?;
+                    self.note_refused(place, cause, step)?;
                 }
                 self.lead(script, standing, step)
             }
@@ -274,20 +275,37 @@ impl Search {
         }
     }
 
-    fn note_refused(&mut self, place: u16, cause: Refusal, after: u32) -> Result<(), Halt> {
+    fn note_refused(&mut self, place: u16, cause: Refusal, step: Step) -> Result<(), Halt> {
         for known in &mut self.refused {
             if known.place == place && known.cause == cause {
-                known.steps = known.steps.saturating_add(1);
+                known.count = known.count.saturating_add(1);
                 return Ok(());
             }
         }
-        let refused = Refused {
+        let refused = FirstRefused {
             place,
             cause,
-            steps: 1,
-            after,
+            step,
+            count: 1,
         };
         self.refused.push(refused).map_err(|_| Halt::Memory)
+    }
+
+    /// The lines that were refused, the first one first.
+    pub(crate) fn refused(&self) -> Result<Vec<Refused>, Halt> {
+        let mut all = Vec::new(self.alloc);
+        for first in &self.refused {
+            let mut path = self.path(first.step.from)?;
+            path.push(first.step.turn).map_err(|_| Halt::Memory)?;
+            let refused = Refused {
+                place: first.place,
+                cause: first.cause,
+                steps: first.count,
+                path,
+            };
+            all.push(refused).map_err(|_| Halt::Memory)?;
+        }
+        Ok(all)
     }
 
     // Notes where a step leads.

@@ -2,7 +2,7 @@
 
 use crate::plain::AS_WRITTEN;
 use ada_events::Refusal;
-use ada_explore::{End, Finding, Halt, Progress, Refused, Space, Unwatched, Watch, explore};
+use ada_explore::{End, Finding, Halt, Progress, Space, Unwatched, Watch, explore};
 use ada_script::read;
 use std::alloc::Global;
 use std::test::Fail;
@@ -65,13 +65,13 @@ fn counts_states_steps_and_refusals(rt: HostRuntime) -> Result<(), Fail> {
     assert_eq!(&rt; found.end, End::AllSeen);
     assert_eq!(&rt; (found.states, found.steps), (9, 10));
     assert_eq!(&rt; (found.stuck_states, found.short_states), (0, 0));
-    let refused = Refused {
-        place: 3,
-        cause: Refusal::NotInAccept,
-        steps: 2,
-        after: 4,
+    let [refused] = found.refused.as_slice() else {
+        return Err(Fail::new("not one line is refused"));
     };
-    assert_eq!(&rt; found.refused.as_slice(), [refused].as_slice());
+    assert_eq!(&rt; (refused.place, refused.cause), (3, Refusal::NotInAccept));
+    assert_eq!(&rt; refused.steps, 2);
+    let places = refused.path.iter().map(|turn| turn.place());
+    assert!(&rt; places.eq([Some(0), Some(1), Some(2), Some(3)]));
     Ok(())
 }
 

@@ -9,6 +9,7 @@ pub mod explain_order;
 pub mod exploring;
 pub mod fixing;
 pub mod input;
+pub mod line_numbers;
 pub mod obeying;
 pub mod order;
 pub mod output;

@@ -1,5 +1,6 @@
 //! The texts of what was found of all schedules of a script.
 
+use crate::line_numbers::LineNumbers;
 use ada_explain::standstill::write_standstill;
 use ada_explain::{Scene, Source};
 use ada_explore::{
@@ -175,10 +176,33 @@ impl<'t> Told<'_, 't> {
             let number = self.number(refused.place);
             write!(text, "Refused in ")?;
             write_count(text, refused.steps, "step")?;
-            write!(text, ", first after {}: line {number}, ", refused.after)?;
+            write!(
+                text,
+                ", first after {}: line {number}, ",
+                refused.path.len()
+            )?;
             write!(text, "'{}' [{}]\n", self.source.line(number), refused.cause)?;
+            self.write_numbers(text, &refused.path)?;
         }
         Ok(())
+    }
+
+    // Says by which lines a schedule comes to its end.
+    fn write_numbers(&self, text: &mut String, path: &[Turn]) -> Result<(), AllocError> {
+        text.push_str("  by lines ")?;
+        let mut numbers = LineNumbers::new(text);
+        for turn in path {
+            match *turn {
+                Turn::Line { place, pick: None } => numbers.line(self.number(place))?,
+                Turn::Line {
+                    place,
+                    pick: Some(pick),
+                } => numbers.line_with_pick(self.number(place), pick)?,
+                Turn::Time => numbers.time()?,
+            }
+        }
+        numbers.end()?;
+        text.push_str("\n")
     }
 
     // The number of the line at a place, from 1.
