@@ -1,6 +1,5 @@
 //! A text that is told again only if it has changed.
 
-use crate::texts::put_key;
 use std::alloc::{AllocError, Global};
 use std::mem;
 
@@ -40,10 +39,15 @@ impl Changing {
         &self.last
     }
 
-    /// Appends what was written as a member of an object, if it isn't what was told last.
-    pub fn put(&mut self, out: &mut String, key: &str) -> Result<(), AllocError> {
+    /// Whether nothing was told yet.
+    pub fn is_untold(&self) -> bool {
+        self.last.is_empty()
+    }
+
+    /// Appends what was written, after what stands before it, if it isn't what was told last.
+    pub fn put(&mut self, out: &mut String, before: &str) -> Result<(), AllocError> {
         if self.take() {
-            put_key(out, key)?;
+            out.push_str(before)?;
             out.push_str(&self.last)?;
         }
         Ok(())

@@ -9,6 +9,7 @@ pub mod nests;
 pub mod page;
 pub mod queues;
 pub mod rows;
+pub mod sentence;
 pub mod standing;
 pub mod telling;
 pub mod template;

@@ -12,8 +12,8 @@ pub struct Queued {
     pub caller: TaskNo,
     pub callee: TaskNo,
     pub entry: Entry,
-    /// Its place in the queue, from 1.
-    pub place: u32,
+    /// Whether it is the first one of its queue.
+    pub is_first: bool,
 }
 
 impl Queued {
@@ -26,30 +26,36 @@ impl Queued {
 /// The calls that stand in queues, in the order in which they came.
 #[derive(Drop)]
 pub struct Queues {
+    /// Their positions.
+    positions: Vec<u32>,
     calls: Vec<Queued>,
-    /// The place of each task's call in its queue, from 1; 0 if it stands in none.
-    places: Vec<u32>,
+    /// The name of each task as an item of a list, in quotation marks after a comma.
+    items: Vec<String>,
 }
 
 impl Queues {
     /// No call stands in a queue.
     pub fn new(alloc: Global) -> Self {
         Queues {
+            positions: Vec::new(alloc),
             calls: Vec::new(alloc),
-            places: Vec::new(alloc),
+            items: Vec::new(alloc),
         }
     }
 
-    /// Takes the queues of a kernel in place of these, by what stands there.
-    pub fn take(&mut self, scene: Scene<'_>, standing: &Standing) -> Result<(), AllocError> {
+    /// Takes the queues of a kernel in place of these, by what stands there; whether they are others.
+    pub fn take(&mut self, scene: Scene<'_>, standing: &Standing) -> Result<bool, AllocError> {
+        if self.positions.as_slice() == standing.queued.as_slice() {
+            return Ok(false);
+        }
+        self.positions.clear();
+        self.positions.extend_from_slice(&standing.queued)?;
         self.calls.clear();
-        self.places.clear();
-        self.places.resize(standing.doings.len(), 0)?;
         for call in &standing.queued {
             self.push(scene, *call)?;
         }
-        self.number();
-        Ok(())
+        self.name(scene, standing.doings.len())?;
+        Ok(true)
     }
 
     // Puts a call last.
@@ -63,42 +69,48 @@ impl Queues {
             },
         ) = event_in(scene.events, call)
         {
-            self.calls.push(Queued {
+            let mut queued = Queued {
                 caller: *by,
                 callee: *callee,
                 entry: *entry,
-                place: 0,
-            })?;
+                is_first: true,
+            };
+            queued.is_first = !self.calls.iter().any(|other| other.is_beside(&queued));
+            self.calls.push(queued)?;
         }
         Ok(())
     }
 
-    /// The place of a task's call in its queue, from 1; 0 if it stands in none.
-    pub fn place_of(&self, caller: TaskNo) -> u32 {
-        match self.places.get(usize::from(caller.0)) {
-            Some(place) => *place,
-            None => 0,
+    // Names as many tasks, those that were named before left out.
+    fn name(&mut self, scene: Scene<'_>, tasks: usize) -> Result<(), AllocError> {
+        for task in self.items.len()..tasks {
+            let mut item = String::new(*self.items.allocator());
+            item.push_str(",\"")?;
+            item.push_str(scene.task(TaskNo((task % 65_536) as u16)))?;
+            item.push('"')?;
+            self.items.push(item)?;
+        }
+        Ok(())
+    }
+
+    // The name of a task as an item of a list, after others.
+    fn item(&self, task: TaskNo) -> &str {
+        match self.items.get(usize::from(task.0)) {
+            Some(item) => item,
+            None => "",
         }
     }
 
-    // Gives each call its place.
-    fn number(&mut self) {
-        for i in 0..self.calls.len() {
-            let place = place_at(&self.calls, i);
-            if let Some(queued) = self.calls.get_mut(i) {
-                queued.place = place;
-                if let Some(of_caller) = self.places.get_mut(usize::from(queued.caller.0)) {
-                    *of_caller = place;
-                }
-            }
-        }
+    /// The calls.
+    pub fn calls(&self) -> &[Queued] {
+        &self.calls
     }
 
     /// Appends the callers of each queue that isn't empty, the first one first.
     pub fn write(&self, out: &mut String, scene: Scene<'_>) -> Result<(), AllocError> {
         let mut before = "[";
         for queued in &self.calls {
-            if queued.place == 1 {
+            if queued.is_first {
                 out.push_str(before)?;
                 before = ",";
                 self.write_queue(out, scene, queued)?;
@@ -119,26 +131,12 @@ impl Queues {
         out.push_str(scene.family_name(first.callee, first.entry.family))?;
         let index = first.entry.index;
         write!(out, "\",\"index\":{index},\"callers\":[")?;
-        let mut before = "\"";
+        out.push_str(self.item(first.caller).get(1..).unwrap_or(""))?;
         for queued in &self.calls {
-            if queued.is_beside(first) {
-                out.push_str(before)?;
-                out.push_str(scene.task(queued.caller))?;
-                before = "\",\"";
+            if queued.is_beside(first) && !queued.is_first {
+                out.push_str(self.item(queued.caller))?;
             }
         }
-        out.push_str("\"]}")
-    }
-}
-
-// The place of the call at that place among all, in its queue.
-fn place_at(calls: &[Queued], at: usize) -> u32 {
-    let Some(own) = calls.get(at) else {
-        return 0;
-    };
-    let last = calls[..at].iter().rfind(|other| other.is_beside(own));
-    match last {
-        Some(before) => before.place.saturating_add(1),
-        None => 1,
+        out.push_str("]}")
     }
 }

@@ -1,18 +1,17 @@
 //! The rows of a play: the beginning, and a row for each printed line.
 
-use crate::texts::put_member;
+use crate::texts::{put_member, put_number, put_word};
 use ada_events::journal::event_in;
 use ada_events::{Event, TaskNo};
 use ada_explain::Scene;
 use ada_explain::arrival::Arrival;
 use ada_explain::lives::Stage;
 use ada_explain::past::Past;
-use ada_renderings::json::members::{put_number, put_position, put_text, put_truth};
+use ada_renderings::json::members::put_truth;
 use ada_renderings::json::telling::{kind_of, put_told};
 use ada_replay::Answer;
 use ada_script::Value;
 use ada_script::cursor::Lines;
-use itoa::Buffer;
 use std::alloc::{AllocError, Global};
 use std::str;
 
@@ -99,32 +98,34 @@ impl Rows {
             }
             Answer::Refused(cause) => {
                 self.begin_row(line, "refused")?;
-                put_text(&mut self.out, "cause", cause.name())?;
-                put_member(&mut self.out, "printed", next_of(&mut printed))
+                put_word(&mut self.out, ",\"cause\":\"", cause.name())?;
+                self.put_printed(next_of(&mut printed))
             }
             Answer::Shown(value) => {
                 self.begin_row(line, "shown")?;
                 self.put_value(value)?;
-                put_member(&mut self.out, "printed", next_of(&mut printed))
+                self.put_printed(next_of(&mut printed))
             }
         }
     }
 
     fn begin_row(&mut self, line: u32, kind: &str) -> Result<(), AllocError> {
         self.begin_line(line)?;
-        put_text(&mut self.out, "kind", kind)
+        put_word(&mut self.out, ",\"kind\":\"", kind)
     }
 
     fn begin_line(&mut self, line: u32) -> Result<(), AllocError> {
-        self.out.push_str("},\n{\"line\":")?;
-        let mut buffer = Buffer::new();
-        self.out.push_str(buffer.format(line))
+        put_number(&mut self.out, "},\n{\"line\":", line)
+    }
+
+    fn put_printed(&mut self, printed: &str) -> Result<(), AllocError> {
+        put_member(&mut self.out, ",\"printed\":", printed)
     }
 
     fn put_value(&mut self, value: Value) -> Result<(), AllocError> {
         match value {
             Value::Truth(truth) => put_truth(&mut self.out, "value", truth),
-            Value::Number(number) => put_number(&mut self.out, "value", i64::from(number)),
+            Value::Number(number) => put_number(&mut self.out, ",\"value\":", u32::from(number)),
         }
     }
 
@@ -139,12 +140,11 @@ impl Rows {
     ) -> Result<(), AllocError> {
         for position in first..=last {
             self.begin_line(line)?;
-            put_position(&mut self.out, "position", position)?;
+            put_number(&mut self.out, ",\"position\":", position)?;
             if position > first {
-                put_position(&mut self.out, "forced_by", first)?;
+                put_number(&mut self.out, ",\"forced_by\":", first)?;
             }
-            let printed = without_position(next_of(printed));
-            put_member(&mut self.out, "printed", printed)?;
+            self.put_printed(without_position(next_of(printed)))?;
             self.put_event(scene, position)?;
         }
         Ok(())
@@ -161,7 +161,7 @@ impl Rows {
         let Some(event) = event_in(scene.events, position) else {
             return Ok(());
         };
-        put_text(&mut self.out, "kind", kind_of(event))?;
+        put_word(&mut self.out, ",\"kind\":\"", kind_of(event))?;
         let made = TaskNo((self.past.lives().tasks() % 65_536) as u16);
         self.take(scene, position, event, made)?;
         let quit = quit_by(event, &self.changed);
@@ -178,11 +178,11 @@ impl Rows {
             position,
         };
         if let Some(row) = arrival.row() {
-            put_number(&mut self.out, "rule", i64::from(row))?;
+            put_number(&mut self.out, ",\"rule\":", u32::from(row))?;
         }
         self.because.clear();
         arrival.write(&mut self.because)?;
-        put_member(&mut self.out, "because", &self.because)
+        put_member(&mut self.out, ",\"because\":", &self.because)
     }
 
     // Takes note of the tasks that do something else by an event, a new one among them.

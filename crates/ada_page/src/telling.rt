@@ -1,13 +1,13 @@
 //! What is told of a play: its rows, and in the last row of each line what stands that isn't as it was told last.
 
 use crate::changing::Changing;
-use crate::circles::write_circles;
+use crate::circles::Circles;
 use crate::nests::write_nests;
 use crate::queues::Queues;
 use crate::rows::Rows;
 use crate::standing::Standing;
 use crate::texts::{put_member, put_quoted};
-use crate::whys::{Waits, Whys};
+use crate::whys::{Change, Waits, Whys, change_lives};
 use ada_explain::Scene;
 use ada_explain::clients::Clients;
 use ada_explain::end::End;
@@ -28,6 +28,7 @@ pub struct Teller {
     /// How many events the clients are of.
     taken: usize,
     calls: Queues,
+    circling: Circles,
     whys: Whys,
     queues: Changing,
     nests: Changing,
@@ -65,6 +66,7 @@ impl Teller {
             clients: Clients::new(alloc)?,
             taken: 0,
             calls: Queues::new(alloc),
+            circling: Circles::new(alloc),
             whys: Whys::new(alloc),
             queues: Changing::new(alloc),
             nests: Changing::new(alloc),
@@ -87,8 +89,14 @@ impl Teller {
         let newer = scene.events.get(self.taken..).unwrap_or(&[]);
         self.clients.take(scene.events, newer)?;
         self.taken = scene.events.len();
-        self.calls.take(scene, standing)?;
-        self.put_standing(&End { scene }, standing)
+        let change = Change {
+            runs: self.whys.is_other_run(standing),
+            lives: change_lives(newer),
+            queues: self.calls.take(scene, standing)? || self.queues.is_untold(),
+        };
+        let end = End { scene };
+        self.put_standing(&end, standing, change)?;
+        self.put_verdict(&end, standing.verdict, change)
     }
 
     /// Tells what a line was answered, and what stands after it, or why it was refused, if it was: then nothing has
@@ -120,7 +128,7 @@ impl Teller {
     fn put_refused(&mut self, refused: Refused<'_>) -> Result<(), AllocError> {
         let mut why = String::new(*self.sentence.allocator());
         write_refused(&mut why, refused)?;
-        put_member(&mut self.rows.out, "why", &why)?;
+        put_member(&mut self.rows.out, ",\"why\":", &why)?;
         self.sentences.sentences.push(why)?;
         Ok(())
     }
@@ -138,30 +146,41 @@ impl Teller {
         &mut self,
         end: &'x End<'x>,
         standing: &'x Standing,
+        change: Change,
     ) -> Result<(), AllocError> {
         let out = &mut self.rows.out;
-        let is_other_run = self.whys.is_other_run(standing);
-        let ended = Some(standing.verdict);
         let whys = Waits {
             end,
             standing,
             clients: &self.clients,
-            queues: &self.calls,
-            is_other_run,
+            change,
         };
         self.whys.tell(out, &whys)?;
-        self.calls.write(self.queues.anew(), end.scene)?;
-        self.queues.put(out, "queues")?;
+        if change.queues {
+            self.calls.write(self.queues.anew(), end.scene)?;
+            self.queues.put(out, ",\"queues\":")?;
+        }
         write_nests(self.nests.anew(), end.scene, standing)?;
-        self.nests.put(out, "nests")?;
-        write_circles(self.circles.anew(), end, standing)?;
-        self.circles.put(out, "circles")?;
-        if is_other_run || self.ended != ended {
+        self.nests.put(out, ",\"nests\":")?;
+        self.circling
+            .write(self.circles.anew(), end, standing, &self.calls)?;
+        self.circles.put(out, ",\"circles\":")
+    }
+
+    fn put_verdict(
+        &mut self,
+        end: &End<'_>,
+        verdict: Verdict,
+        change: Change,
+    ) -> Result<(), AllocError> {
+        let out = &mut self.rows.out;
+        let ended = Some(verdict);
+        if change.runs || self.ended != ended {
             self.ended = ended;
             self.sentence.clear();
-            write_ending(&mut self.sentence, end, standing.verdict)?;
+            write_ending(&mut self.sentence, end, verdict)?;
             put_quoted(self.verdict.anew(), self.sentence.trim())?;
-            self.verdict.put(out, "verdict")?;
+            self.verdict.put(out, ",\"verdict\":")?;
         }
         Ok(())
     }

@@ -1,5 +1,6 @@
 //! Texts as JSON that may stand within HTML too.
 
+use itoa::Buffer;
 use std::alloc::AllocError;
 
 // Whether a byte stands within quotation marks as it is.
@@ -56,16 +57,23 @@ fn put_units(out: &mut String, text: &str) -> Result<(), AllocError> {
     Ok(())
 }
 
-/// Begins a member of an object, after those before it.
-pub fn put_key(out: &mut String, key: &str) -> Result<(), AllocError> {
-    out.push_str(",\"")?;
-    out.push_str(key)?;
-    out.push_str("\":")
+/// Appends a number, after what stands before it.
+pub fn put_number(out: &mut String, before: &str, number: u32) -> Result<(), AllocError> {
+    out.push_str(before)?;
+    let mut buffer = Buffer::new();
+    out.push_str(buffer.format(number))
 }
 
-/// Appends a member of an object, after those before it.
-pub fn put_member(out: &mut String, key: &str, text: &str) -> Result<(), AllocError> {
-    put_key(out, key)?;
+/// Appends a word in which nothing has to be escaped, after what stands before it, a quotation mark at its end.
+pub fn put_word(out: &mut String, before: &str, word: &str) -> Result<(), AllocError> {
+    out.push_str(before)?;
+    out.push_str(word)?;
+    out.push('"')
+}
+
+/// Appends a text in quotation marks, after what stands before it.
+pub fn put_member(out: &mut String, before: &str, text: &str) -> Result<(), AllocError> {
+    out.push_str(before)?;
     put_quoted(out, text)
 }
 

@@ -1,14 +1,15 @@
 //! Why each task doesn't go on, or that it runs.
 
 use crate::changing::Changing;
-use crate::queues::Queues;
+use crate::sentence::write_sentence;
 use crate::standing::{Doing, Standing};
-use crate::texts::put_quoted;
-use ada_events::TaskNo;
+use crate::texts::{put_number, put_quoted, put_word};
+use ada_events::journal::event_in;
+use ada_events::{Event, TaskNo};
+use ada_explain::Scene;
 use ada_explain::clients::Clients;
 use ada_explain::end::End;
 use ada_explain::reasons::meeting_of;
-use ada_explain::standstill::write_task;
 use ada_waiting::{Reason, awaits};
 use std::alloc::{AllocError, Global};
 
@@ -17,10 +18,8 @@ use std::alloc::{AllocError, Global};
 struct Last {
     reason: Option<Reason>,
     runs: bool,
-    /// Its place in a queue, 0 if it stands in none.
-    place: u32,
     client: Option<Client>,
-    /// As an object; empty if nothing was told yet.
+    /// As an object.
     told: Changing,
 }
 
@@ -31,15 +30,24 @@ struct Client {
     reason: Option<Reason>,
 }
 
+/// What isn't as it was when something was told last.
+#[derive(Clone, Copy, Debug)]
+pub struct Change {
+    /// Whether other tasks run.
+    pub runs: bool,
+    /// Whether a task was made, or came up, or came to its end.
+    pub lives: bool,
+    /// Whether other calls stand in queues.
+    pub queues: bool,
+}
+
 /// On what it depends why tasks don't go on.
 #[derive(Clone, Copy)]
 pub struct Waits<'a, 'b> {
     pub end: &'a End<'a>,
     pub standing: &'a Standing,
     pub clients: &'b Clients,
-    pub queues: &'b Queues,
-    /// Whether other tasks run than when something was told last.
-    pub is_other_run: bool,
+    pub change: Change,
 }
 
 /// What was told last of each task.
@@ -51,17 +59,32 @@ pub struct Whys {
     sentence: String,
 }
 
-// What tells why a task doesn't go on, as a word.
-fn word_of(reason: Reason) -> &'static str {
+/// Whether a task was made, or came up, or came to its end, by one of some events.
+pub fn change_lives(events: &[Event]) -> bool {
+    events.iter().any(|event| {
+        matches!(
+            event,
+            Event::Created { .. }
+                | Event::Elaborated { .. }
+                | Event::Completed { .. }
+                | Event::Halted { .. }
+                | Event::Gone { .. }
+                | Event::Quit { .. }
+        )
+    })
+}
+
+// What tells why a task doesn't go on, as a member that is a word.
+fn member_of(reason: Reason) -> &'static str {
     match reason {
-        Reason::NotStarted => "not started",
-        Reason::Activating { .. } => "activating",
-        Reason::Queued { .. } => "queued",
-        Reason::InRendezvous { .. } => "in rendezvous",
-        Reason::Waiting { .. } => "waiting",
-        Reason::Delayed { .. } => "delayed",
-        Reason::Leaving { .. } => "leaving",
-        Reason::Completed => "completed",
+        Reason::NotStarted => ",\"reason\":\"not started\"",
+        Reason::Activating { .. } => ",\"reason\":\"activating\"",
+        Reason::Queued { .. } => ",\"reason\":\"queued\"",
+        Reason::InRendezvous { .. } => ",\"reason\":\"in rendezvous\"",
+        Reason::Waiting { .. } => ",\"reason\":\"waiting\"",
+        Reason::Delayed { .. } => ",\"reason\":\"delayed\"",
+        Reason::Leaving { .. } => ",\"reason\":\"leaving\"",
+        Reason::Completed => ",\"reason\":\"completed\"",
     }
 }
 
@@ -78,38 +101,32 @@ fn since(end: &End<'_>, reason: Reason) -> Option<u32> {
     }
 }
 
-// Whether what is told for a reason depends on what other tasks do.
-fn depends_on_others(reason: Reason, is_other_run: bool) -> bool {
-    match reason {
-        Reason::Waiting { .. } => is_other_run,
-        Reason::Activating { .. } | Reason::Leaving { .. } | Reason::Completed => true,
-        _ => false,
-    }
-}
-
 impl Last {
     fn new(alloc: Global) -> Self {
         Last {
             reason: None,
             runs: false,
-            place: 0,
             client: None,
             told: Changing::new(alloc),
         }
     }
 
-    // Whether what was told still holds.
-    fn holds(&self, doing: &Doing, place: u32, client: Option<Client>, is_other_run: bool) -> bool {
-        let depends = match doing.reason {
-            Some(reason) => depends_on_others(reason, is_other_run),
-            None => false,
-        };
-        !self.told.last().is_empty()
-            && !depends
-            && self.reason == doing.reason
-            && self.runs == doing.runs
-            && self.place == place
-            && self.client == client
+    // Whether a task does what was told of it.
+    fn is_of(&self, doing: &Doing) -> bool {
+        self.reason == doing.reason && self.runs == doing.runs && !self.told.is_untold()
+    }
+
+    // Whether what was told of a task that does the same still holds.
+    fn holds(&self, waits: &Waits<'_, '_>, task: TaskNo) -> bool {
+        match self.reason {
+            Some(Reason::Waiting { .. }) => {
+                !waits.change.runs && self.client == client_of(waits, task)
+            }
+            Some(Reason::Activating { .. } | Reason::Leaving { .. } | Reason::Completed) => {
+                !waits.change.lives
+            }
+            _ => true,
+        }
     }
 }
 
@@ -128,7 +145,7 @@ impl Whys {
         let mut before = ",\"whys\":{\"";
         for (task, doing) in waits.standing.doings.iter().enumerate() {
             let task = TaskNo((task % 65_536) as u16);
-            if self.changes(waits, task, doing)? {
+            if !self.holds(waits, task, doing) && self.changes(waits, task, doing)? {
                 out.push_str(before)?;
                 out.push_str(waits.end.scene.task(task))?;
                 out.push_str("\":")?;
@@ -154,6 +171,14 @@ impl Whys {
         }
     }
 
+    // Whether what was told last of a task still holds.
+    fn holds(&self, waits: &Waits<'_, '_>, task: TaskNo, doing: &Doing) -> bool {
+        match self.last.get(usize::from(task.0)) {
+            Some(last) => last.is_of(doing) && last.holds(waits, task),
+            None => false,
+        }
+    }
+
     // Whether something else is to be told of a task than was told last.
     fn changes(
         &mut self,
@@ -161,23 +186,24 @@ impl Whys {
         task: TaskNo,
         doing: &Doing,
     ) -> Result<bool, AllocError> {
-        let place = waits.queues.place_of(task);
-        let client = client_of(waits, task, doing);
         if usize::from(task.0) >= self.last.len() {
             self.last.push(Last::new(self.alloc))?;
         }
         let Some(last) = self.last.get_mut(usize::from(task.0)) else {
             return Ok(false);
         };
-        if last.holds(doing, place, client, waits.is_other_run) {
-            return Ok(false);
-        }
+        let client = client_of(waits, task);
         last.client = client;
         last.reason = doing.reason;
         last.runs = doing.runs;
-        last.place = place;
         self.sentence.clear();
-        write_task(&mut self.sentence, waits.end, waits.clients, task)?;
+        write_sentence(
+            &mut self.sentence,
+            waits.end,
+            waits.clients,
+            task,
+            doing.reason,
+        )?;
         let sentence = self.sentence.trim();
         write_why(last.told.anew(), waits.end, task, doing, client, sentence)?;
         Ok(last.told.take())
@@ -185,10 +211,7 @@ impl Whys {
 }
 
 // The task that a task served last, if it waits for other calls than that one.
-fn client_of(waits: &Waits<'_, '_>, task: TaskNo, doing: &Doing) -> Option<Client> {
-    let Some(Reason::Waiting { .. }) = doing.reason else {
-        return None;
-    };
+fn client_of(waits: &Waits<'_, '_>, task: TaskNo) -> Option<Client> {
     let client = waits.clients.client_of(waits.end.scene, task)?;
     Some(Client {
         task: client,
@@ -217,7 +240,7 @@ fn write_why(
         write!(out, ",\"due\":{due}")?;
     }
     if let Some(client) = client {
-        write!(out, ",\"served\":\"{}\"", end.scene.task(client.task))?;
+        put_word(out, ",\"served\":\"", end.scene.task(client.task))?;
     }
     out.push('}')
 }
@@ -228,13 +251,28 @@ fn write_reason(
     task: TaskNo,
     reason: Reason,
 ) -> Result<(), AllocError> {
-    out.push_str(",\"reason\":\"")?;
-    out.push_str(word_of(reason))?;
-    out.push('"')?;
+    out.push_str(member_of(reason))?;
     if let Some(position) = since(end, reason) {
-        write!(out, ",\"since\":{position}")?;
+        put_number(out, ",\"since\":", position)?;
     }
-    write_awaited(out, end, task, reason)
+    match reason {
+        Reason::Queued { call } | Reason::InRendezvous { call } => {
+            write_called(out, end.scene, call)
+        }
+        Reason::Waiting { .. } | Reason::Delayed { .. } => Ok(()),
+        _ => write_awaited(out, end, task, reason),
+    }
+}
+
+// The task that a call is for, for which its caller waits.
+fn write_called(out: &mut String, scene: Scene<'_>, call: u32) -> Result<(), AllocError> {
+    match event_in(scene.events, call) {
+        Some(Event::Called { callee, .. }) => {
+            put_word(out, ",\"awaits\":[\"", scene.task(*callee))?;
+            out.push(']')
+        }
+        _ => Ok(()),
+    }
 }
 
 // The tasks for which a task waits, if there are some.

@@ -7,8 +7,8 @@ pub static BEFORE_TITLE: &str = "\
 <meta charset=\"utf-8\">
 <meta name=\"viewport\" content=\"width=device-width, initial-scale=1\">
 <meta http-equiv=\"Content-Security-Policy\" content=\"default-src 'none'; style-src 'unsafe-inl\
-ine'; base-uri 'none'; form-action 'none'; script-src 'sha256-kY64OcqZ4K5OA5+lxLNHCHAvEt13tHeP/t\
-50f9hQiuc='\">
+ine'; base-uri 'none'; form-action 'none'; script-src 'sha256-B6E2EfnBZ3+7JU1Hb/959C/Jm6ddwEaMA7\
+/V4S1VLEg='\">
 <title>";
 
 pub static BEFORE_STYLE: &str = "\

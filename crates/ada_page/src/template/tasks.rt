@@ -106,11 +106,20 @@ ST_CALLERS)) {
   return parts;
 }
 
+// Where the call of a task stands in its queue, if it does.
+function placePart(name) {
+  const queue = (at(\"queues\", place) || []).find(q => q.callers.includes(name));
+  if (!queue) return \"\";
+  const number = queue.callers.indexOf(name) + 1;
+  return make(\"span\", { class: \"place faint\" }, ` Place ${number} of ${queue.callers.length\
+} in the queue.`);
+}
+
 function whyParts(name) {
   const task = tasks.get(name);
   if (task.row > place) return [make(\"p\", {}, `${name} isn't made yet.`)];
   const why = at(\"why \" + name, place), parts = [];
-  if (why) parts.push(make(\"p\", {}, why.text));
+  if (why) parts.push(make(\"p\", {}, why.text, placePart(name)));
   else if (picked) parts.push(make(\"p\", {}, `${name} is ${at(\"stage \" + name, place)}.`));
   return picked ? [...parts, ...pickedParts(name, task, why)] : parts;
 }
