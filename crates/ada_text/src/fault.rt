@@ -1,0 +1,177 @@
+//! Why a text isn't of the subset.
+
+use crate::kind::Kind;
+use crate::place::Place;
+use std::alloc::{AllocError, AllocFailed};
+use std::fmt;
+use thiserror::Error;
+
+/// What could stand where another word stands.
+#[derive(Clone, Copy, Debug, PartialEq, Eq)]
+pub enum Wanted {
+    /// This word.
+    Word(Kind),
+    /// An expression (4.4).
+    Expression,
+    /// A statement (5.1).
+    Statement,
+    /// A declaration (3.1) or `begin`.
+    Declaration,
+    /// The definition of a type (3.3.1).
+    TypeDefinition,
+    /// An alternative of a select statement (9.7).
+    Alternative,
+    /// An attribute of the subset (4.1.4).
+    Attribute,
+    /// A call (6.4) or an assignment (5.2).
+    CallOrAssignment,
+}
+
+impl fmt::Display for Wanted {
+    fn fmt<W: fmt::Write>(&self, f: &mut fmt::Formatter<W>) -> fmt::Result {
+        match *self {
+            Wanted::Word(kind) => f.write_str(kind.spelling()),
+            Wanted::Expression => f.write_str("an expression"),
+            Wanted::Statement => f.write_str("a statement"),
+            Wanted::Declaration => f.write_str("a declaration or begin"),
+            Wanted::TypeDefinition => f.write_str("the definition of a type"),
+            Wanted::Alternative => f.write_str("an alternative: accept, delay or terminate"),
+            Wanted::Attribute => f.write_str("an attribute of the subset"),
+            Wanted::CallOrAssignment => f.write_str("a call or an assignment"),
+        }
+    }
+}
+
+/// What is wrong with a text.
+#[derive(Clone, Copy, Debug, PartialEq, Eq, Error)]
+pub enum Cause {
+    /// More than 1 MiB.
+    #[error("the text is longer than 1 MiB")]
+    TextTooLong,
+    /// More than 64 levels.
+    #[error("statements, declarations or parentheses are nested more than 64 levels deep")]
+    NestedTooDeep,
+    /// More than 65,536 of a kind.
+    #[error("the text has more than 65536 expressions, statements or declarations")]
+    TooMany,
+    /// A byte that begins no word (2.1).
+    #[error("this character begins no word")]
+    BadCharacter,
+    /// A byte above 127 outside of a comment or a string literal.
+    #[error("characters beyond ASCII stand in comments and strings alone")]
+    NotAscii,
+    /// A string literal without its end in the same line (2.6).
+    #[error("the string has no end in its line")]
+    OpenText,
+    /// A numeric literal that isn't well formed (2.4).
+    #[error("the number isn't well formed")]
+    BadNumber,
+    /// A number beyond 64 bits.
+    #[error("the number is too large")]
+    NumberTooLarge,
+    /// Another word was wanted.
+    #[error("{wanted} is wanted here, and there is {found}")]
+    Unexpected { wanted: Wanted, found: Kind },
+    /// `and`, `or`, `xor`, `and then` and `or else` in one expression (4.4).
+    #[error("different logical operators in one expression want parentheses")]
+    MixedOperators,
+    /// The name after `end` is another one.
+    #[error("this isn't the name that is ended here")]
+    OtherName,
+    /// 3.8.
+    #[error("access types aren't in the subset")]
+    AccessTypes,
+    /// 3.7.
+    #[error("records aren't in the subset")]
+    Records,
+    /// 3.6.
+    #[error("arrays with several dimensions aren't in the subset")]
+    SeveralDimensions,
+    /// 3.6.
+    #[error("unconstrained arrays aren't in the subset")]
+    UnconstrainedArrays,
+    /// 3.5.6.
+    #[error("fixed and floating types aren't in the subset")]
+    RealTypes,
+    /// 3.4.
+    #[error("derived types aren't in the subset")]
+    DerivedTypes,
+    /// 3.2.
+    #[error("number declarations aren't in the subset")]
+    NumberDeclarations,
+    /// 7.4.
+    #[error("private types aren't in the subset")]
+    PrivateTypes,
+    /// 7.
+    #[error("packages aren't in the subset")]
+    Packages,
+    /// 12.
+    #[error("generic units aren't in the subset")]
+    Generics,
+    /// 5.9.
+    #[error("goto statements and labels aren't in the subset")]
+    Labels,
+    /// 10.2.
+    #[error("separate bodies aren't in the subset")]
+    Separate,
+    /// 8.5.
+    #[error("renaming isn't in the subset")]
+    Renaming,
+    /// 8.4.
+    #[error("use clauses but of TEXT_IO aren't in the subset")]
+    UseClauses,
+    /// 10.1.1.
+    #[error("context clauses but of TEXT_IO aren't in the subset")]
+    ContextClauses,
+    /// 13.
+    #[error("representation clauses aren't in the subset")]
+    RepresentationClauses,
+    /// 6.1.
+    #[error("default values of parameters aren't in the subset")]
+    DefaultValues,
+    /// 6.7.
+    #[error("operators as functions aren't in the subset")]
+    OperatorFunctions,
+    /// 4.1.2.
+    #[error("slices aren't in the subset")]
+    Slices,
+    /// 5.8.
+    #[error("return out of an accept statement isn't in the subset")]
+    ReturnOfAccept,
+    /// A growth was refused.
+    #[error("memory is wanting")]
+    OutOfMemory,
+}
+
+/// What is wrong with a text, and where.
+#[derive(Clone, Copy, Debug, PartialEq, Eq, Error)]
+#[error("{}:{}: {cause}", .place.line, .place.column)]
+pub struct Fault {
+    pub place: Place,
+    pub cause: Cause,
+}
+
+/// What is wrong with a text, at the byte with this index.
+#[derive(Clone, Copy, Debug)]
+pub struct Trouble {
+    pub at: u32,
+    pub cause: Cause,
+}
+
+impl From<AllocError> for Trouble {
+    fn from(_: AllocError) -> Self {
+        Trouble {
+            at: 0,
+            cause: Cause::OutOfMemory,
+        }
+    }
+}
+
+impl<T: Drop> From<AllocFailed<T>> for Trouble {
+    fn from(_: AllocFailed<T>) -> Self {
+        Trouble {
+            at: 0,
+            cause: Cause::OutOfMemory,
+        }
+    }
+}

@@ -1,0 +1,36 @@
+//! Reading a text to a tree.
+
+ghost use Rattle.std.specs.Prelude.{◌≡◌, ◌<◌, ◌≤◌, OnOk, IfErr};
+ghost use Rattle.ada_text.specs.Places.{IsPlaceIn};
+
+use crate::fault::{Cause, Fault, Trouble};
+use crate::lexer::words_of;
+use crate::parser::Parser;
+use crate::place::{LONGEST_TEXT, place_of};
+use crate::tree::Tree;
+use std::alloc::Global;
+
+/// The fault of which this is said, at the place of its byte.
+fn fault_at(text: &[u8], trouble: Trouble) -> Fault
+    ensures { IsPlaceIn text.now result.place }
+{
+    let at = (trouble.at as usize).min(text.len()).min(LONGEST_TEXT);
+    Fault {
+        place: place_of(text, at),
+        cause: trouble.cause,
+    }
+}
+
+/// The tree of a text, or what is wrong at the byte with an index.
+fn tree_of(alloc: Global, text: &[u8]) -> Result<Tree, Trouble> {
+    let words = words_of(alloc, text)?;
+    Parser::new(alloc, text, &words).program()
+}
+
+/// Reads a text to its tree. It is one main procedure of the subset; else the fault says what is wrong and where, or that
+/// memory is wanting.
+pub fn read(alloc: Global, text: &[u8]) -> Result<Tree, Fault>
+    ensures { IfErr result (λ fault. IsPlaceIn text.now fault.place) }
+{
+    tree_of(alloc, text).map_err(|trouble| fault_at(text, trouble))
+}

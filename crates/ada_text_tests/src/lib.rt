@@ -1,0 +1,18 @@
+//! Tests of the reader of Ada texts: the programs of the tour, each rule of the grammar, each refusal with its place, and
+//! the limits.
+#![tactic(auto)]
+
+#[cfg(test)]
+mod common;
+#[cfg(test)]
+mod declarations;
+#[cfg(test)]
+mod expressions;
+#[cfg(test)]
+mod limits;
+#[cfg(test)]
+mod statements;
+#[cfg(test)]
+mod tour;
+#[cfg(test)]
+mod words;
