@@ -30,12 +30,12 @@ pub enum Wanted {
 impl fmt::Display for Wanted {
     fn fmt<W: fmt::Write>(&self, f: &mut fmt::Formatter<W>) -> fmt::Result {
         match *self {
-            Wanted::Word(kind) => f.write_str(kind.spelling()),
+            Wanted::Word(kind) => write!(f, "{kind}"),
             Wanted::Expression => f.write_str("an expression"),
             Wanted::Statement => f.write_str("a statement"),
             Wanted::Declaration => f.write_str("a declaration or begin"),
             Wanted::TypeDefinition => f.write_str("the definition of a type"),
-            Wanted::Alternative => f.write_str("an alternative: accept, delay or terminate"),
+            Wanted::Alternative => f.write_str("accept, delay, terminate or an entry call"),
             Wanted::Attribute => f.write_str("an attribute of the subset"),
             Wanted::CallOrAssignment => f.write_str("a call or an assignment"),
         }
@@ -63,7 +63,10 @@ pub enum Cause {
     /// A string literal without its end in the same line (2.6).
     #[error("the string has no end in its line")]
     OpenText,
-    /// A numeric literal that isn't well formed (2.4).
+    /// An identifier with two underscores in a row or one at its end (2.3).
+    #[error("the name isn't well formed")]
+    BadName,
+    /// A numeric literal that isn't well formed (2.4), or that a letter follows (2.2).
     #[error("the number isn't well formed")]
     BadNumber,
     /// A number beyond 64 bits.
@@ -75,6 +78,24 @@ pub enum Cause {
     /// `and`, `or`, `xor`, `and then` and `or else` in one expression (4.4).
     #[error("different logical operators in one expression want parentheses")]
     MixedOperators,
+    /// Neither two bounds nor the attribute RANGE (3.5).
+    #[error("a range is wanted here")]
+    NoRange,
+    /// Neither a range nor the name of a subtype (3.6.1).
+    #[error("a range or the name of a subtype is wanted here")]
+    NoDiscreteRange,
+    /// A declaration that has to stand before all bodies (3.9).
+    #[error("this has to be declared before the first body")]
+    LateDeclaration,
+    /// A selective wait that accepts no call (9.7.1).
+    #[error("a selective wait wants an accept alternative")]
+    NoAcceptAlternative,
+    /// Two of `terminate`, `delay` and `else`, or `terminate` twice, or with statements after it (9.7.1).
+    #[error("terminate stands alone, and neither terminate nor delay beside else")]
+    ExclusiveAlternatives,
+    /// An entry call with a guard, or with other alternatives than one delay or an else part (9.7.2, 9.7.3).
+    #[error("beside an entry call stands a delay alternative or an else part")]
+    CallAlternatives,
     /// The name after `end` is another one.
     #[error("this isn't the name that is ended here")]
     OtherName,
@@ -133,11 +154,14 @@ pub enum Cause {
     #[error("operators as functions aren't in the subset")]
     OperatorFunctions,
     /// 4.1.2.
-    #[error("slices aren't in the subset")]
+    #[error("a range is no value, and slices aren't in the subset")]
     Slices,
     /// 5.8.
     #[error("return out of an accept statement isn't in the subset")]
     ReturnOfAccept,
+    /// A node that names no node, or stands outside of the text. No text is known that leads to it.
+    #[error("the tree isn't whole")]
+    BrokenTree,
     /// A growth was refused.
     #[error("memory is wanting")]
     OutOfMemory,

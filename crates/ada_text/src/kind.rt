@@ -218,7 +218,15 @@ impl Kind {
 
 impl fmt::Display for Kind {
     fn fmt<W: fmt::Write>(&self, f: &mut fmt::Formatter<W>) -> fmt::Result {
-        f.write_str(self.spelling())
+        match self {
+            Kind::Identifier
+            | Kind::Integer
+            | Kind::Real
+            | Kind::Character
+            | Kind::Text
+            | Kind::EndOfText => f.write_str(self.spelling()),
+            _ => write!(f, "`{}`", self.spelling()),
+        }
     }
 }
 

@@ -1,12 +1,13 @@
 //! Cutting a text into words (2.2).
 
-ghost use Rattle.std.specs.Prelude.{◌≡◌, ◌≤◌, ◌<◌, ◌^◌, length, All, IfOk, IfSome};
-ghost use Rattle.ada_text.specs.Words.{IsWordOf};
+ghost use Rattle.std.specs.Prelude.{◌≤◌, ◌<◌, ◌^◌, length, All, IfOk, IfSome};
+ghost use Rattle.ada_text.specs.internal.Words.{IsWordOf};
 
 use crate::fault::{Cause, Trouble};
 use crate::kind::Kind;
 use crate::lexical::{
-    gap_length, inner_length, is_digit, is_letter, kind_of_name, numeral, text_length,
+    gap_length, inner_length, is_digit, is_letter, is_well_formed, kind_of_name, numeral,
+    text_length,
 };
 use crate::place::LONGEST_TEXT;
 use crate::word::Word;
@@ -71,19 +72,44 @@ fn is_prefix(kind: Kind) -> bool {
     matches!(kind, Kind::Identifier | Kind::RightParenthesis)
 }
 
+/// The identifier or reserved word that the bytes begin with (2.3, 2.9), and how many bytes it takes.
+fn name_word(bytes: &[u8]) -> Result<(Kind, usize), Cause>
+    requires { 1 ≤ length bytes.now }
+    ensures { IfOk result (λ word. (0 < word.1) × (word.1 ≤ length bytes.now)) }
+{
+    let length = 1 + inner_length(&bytes[1..]);
+    let name = &bytes[..length];
+    if is_well_formed(name) {
+        Ok((kind_of_name(name), length))
+    } else {
+        Err(Cause::BadName)
+    }
+}
+
+/// The numeric literal that the bytes begin with (2.4), and how many bytes it takes. No letter follows it (2.2).
+fn number_word(bytes: &[u8]) -> Result<(Kind, usize), Cause>
+    requires { 1 ≤ length bytes.now }
+    ensures { IfOk result (λ word. (0 < word.1) × (word.1 ≤ length bytes.now)) }
+{
+    let (kind, more) = numeral(&bytes[1..]);
+    let length = 1 + more;
+    if inner_length(&bytes[length..]) == 0 {
+        Ok((kind, length))
+    } else {
+        Err(Cause::BadNumber)
+    }
+}
+
 /// The word that the bytes begin with, after a word of this kind, and how many bytes it takes.
 fn first_word(bytes: &[u8], before: Kind) -> Result<(Kind, usize), Cause>
     requires { 1 ≤ length bytes.now }
     ensures { IfOk result (λ word. (0 < word.1) × (word.1 ≤ length bytes.now)) }
 {
-    let first = bytes[0];
-    if is_letter(first) {
-        let length = 1 + inner_length(&bytes[1..]);
-        return Ok((kind_of_name(&bytes[..length]), length));
+    if is_letter(bytes[0]) {
+        return name_word(bytes);
     }
-    if is_digit(first) {
-        let (kind, length) = numeral(&bytes[1..]);
-        return Ok((kind, 1 + length));
+    if is_digit(bytes[0]) {
+        return number_word(bytes);
     }
     match bytes {
         [b'"', ..] => Ok((Kind::Text, text_length(bytes)?)),
@@ -101,7 +127,8 @@ fn first_word(bytes: &[u8], before: Kind) -> Result<(Kind, usize), Cause>
 fn next_word(text: &[u8], from: usize, before: Kind) -> Result<Option<Word>, Trouble>
     requires within { from ≤ length text.now }
     requires short { length text.now ≤ 2 ^ 20 }
-    ensures { IfOk result (λ found. IfSome found (λ word. (from < word.end) × IsWordOf text.now word)) }
+    ensures { IfOk result (λ found. IfSome found (λ word.
+        (from < word.end) × IsWordOf text.now word)) }
 {
     let at = from + gap_length(&text[from..]);
     if at == text.len() {

@@ -1,6 +1,6 @@
 //! How long the words of a text are.
 
-ghost use Rattle.std.specs.Prelude.{◌≡◌, ◌≤◌, ◌<◌, length, IfOk};
+ghost use Rattle.std.specs.Prelude.{◌≤◌, ◌<◌, length, IfOk};
 
 use crate::fault::Cause;
 use crate::kind::{Kind, RESERVED};
@@ -51,6 +51,11 @@ pub fn inner_length(bytes: &[u8]) -> usize
         Some(end) => end,
         None => bytes.len(),
     }
+}
+
+/// Whether each underscore of a name has a letter or a digit after it (2.3).
+pub fn is_well_formed(name: &[u8]) -> bool {
+    !matches!(name, [.., b'_']) && !name.windows(2).any(|pair| matches!(pair, [b'_', b'_']))
 }
 
 /// How many digits and underscores the bytes begin with.

@@ -1,9 +1,9 @@
 //! The values of numeric literals (2.4).
 
-ghost use Rattle.std.specs.Prelude.{◌≡◌, ◌≤◌, ◌<◌, ◌≤ℤ◌, pos, length, IfOk, IfSome};
+ghost use Rattle.std.specs.Prelude.{◌≤◌, ◌<◌, ◌≤ℤ◌, pos, length, IfOk, IfSome};
 
 use crate::fault::Cause;
-use crate::lexical::{is_digit, upper};
+use crate::lexical::upper;
 
 /// The value of a digit, of which a letter has 10 to 15 (2.4.2).
 fn digit_value(byte: u8) -> Option<u64>

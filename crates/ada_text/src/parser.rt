@@ -1,12 +1,14 @@
 //! Reading words to a tree, by recursive descent: a function for each rule of the manual's grammar.
 
-ghost use Rattle.std.specs.Prelude.{◌≡◌, ◌<◌, ◌≤◌, IfOk, IfSome, OnOk, OnSome, IsTrue};
+ghost use Rattle.std.specs.Prelude.{◌<◌, ◌≤◌, IfOk, OnOk, OnSome, IsTrue};
 
 mod declarations;
 mod expressions;
 mod nodes;
 mod operators;
 mod program;
+mod ranges;
+mod selects;
 mod simple;
 mod statements;
 mod tasks;

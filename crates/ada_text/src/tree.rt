@@ -1,7 +1,11 @@
 //! Syntax trees: their nodes lie in four lists, and name one another by their index there.
 
+ghost use Rattle.std.specs.Prelude.{◌≡◌};
+ghost use Rattle.ada_text.specs.Trees as trees;
+
 pub mod declaration;
 pub mod expression;
+pub mod reach;
 pub mod statement;
 pub mod task;
 
@@ -12,6 +16,7 @@ pub use expression::{
     Association, Attribute, BinaryOperator, Expression, ExpressionForm, ExpressionId, Identifier,
     UnaryOperator,
 };
+pub use reach::Reach;
 pub use statement::{
     Alternative, Arm, Body, BodyId, Iteration, Statement, StatementForm, StatementId,
 };
@@ -43,6 +48,19 @@ impl Nodes {
             pragmas: Vec::new(alloc),
         }
     }
+
+    /// How many nodes of each kind there are, of a text of so many bytes.
+    fn reach(&self, bytes: usize) -> Reach
+        ensures { result ≡ trees.reach_of self.now bytes }
+    {
+        Reach {
+            expressions: self.expressions.len(),
+            statements: self.statements.len(),
+            declarations: self.declarations.len(),
+            bodies: self.bodies.len(),
+            bytes,
+        }
+    }
 }
 
 /// A text as a tree: the name of its main program, its body, and all nodes.
@@ -51,4 +69,21 @@ pub struct Tree {
     pub name: Identifier,
     pub body: BodyId,
     pub nodes: Nodes,
+}
+
+impl Tree {
+    /// Whether whatever a node names is there, and stands in a text of so many bytes; and an expression names only
+    /// earlier ones.
+    pub fn is_whole(&self, bytes: usize) -> bool
+        ensures { result ≡ trees.is_tree_whole self.now bytes }
+    {
+        let reach = self.nodes.reach(bytes);
+        reach.has_identifier(self.name)
+            && reach.has_body(self.body)
+            && reach.are_in_order(&self.nodes.expressions)
+            && reach.are_declarations_whole(&self.nodes.declarations)
+            && reach.are_statements_whole(&self.nodes.statements)
+            && reach.are_bodies_whole(&self.nodes.bodies)
+            && reach.has_identifiers(&self.nodes.pragmas)
+    }
 }

@@ -1,6 +1,6 @@
 //! What the tests ask of a text.
 
-use ada_text::{Cause, Kind, Place, Wanted, read};
+use ada_text::{Cause, Kind, Place, Tree, Wanted, read};
 use std::process::Abort;
 use std::test::Fail;
 
@@ -41,6 +41,12 @@ fn with_statements<R: AllocGlobal>(rt: &R, statements: &[u8]) -> Result<Vec<u8>,
     joined(rt, [b"procedure P is begin\n", statements, b"\nend P;\n"])
 }
 
+/// The tree of a procedure with these statements.
+pub fn of_statements<R: AllocGlobal>(rt: &R, statements: &[u8]) -> Result<Option<Tree>, Fail> {
+    let text = with_statements(rt, statements)?;
+    Ok(read(rt.alloc(), &text).ok())
+}
+
 /// The declarations are read.
 pub fn assert_declares<R: Abort + AllocGlobal>(rt: &R, declarations: &[u8]) -> Result<(), Fail> {
     assert_read(rt, &with_declarations(rt, declarations)?);
@@ -77,10 +83,12 @@ pub fn assert_not_done<R: Abort + AllocGlobal>(
     Ok(())
 }
 
+/// Such a word stands where something else is wanted.
+pub fn unexpected(wanted: Wanted, found: Kind) -> Cause {
+    Cause::Unexpected { wanted, found }
+}
+
 /// A word stands where another one is wanted.
 pub fn wanted(wanted: Kind, found: Kind) -> Cause {
-    Cause::Unexpected {
-        wanted: Wanted::Word(wanted),
-        found,
-    }
+    unexpected(Wanted::Word(wanted), found)
 }

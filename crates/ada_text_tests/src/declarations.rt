@@ -1,6 +1,6 @@
 //! Declarations (chapter 3), of subprograms (6) and tasks (9) too.
 
-use crate::common::{assert_declares, assert_not_declared, wanted};
+use crate::common::{assert_declares, assert_not_declared, unexpected, wanted};
 use ada_text::{Cause, Kind, Wanted};
 use std::test::Fail;
 
@@ -17,7 +17,8 @@ fn reads_objects_and_types(rt: HostRuntime) -> Result<(), Fail> {
     )?;
     assert_declares(
         &rt,
-        b"type V is array (1 .. 3) of INTEGER; W : V := (1, 2, others => 0); X : array (COLOUR) of BOOLEAN;",
+        b"type V is array (1 .. 3) of INTEGER; W : V := (1, 2, others => 0);
+          X : array (COLOUR) of BOOLEAN;",
     )?;
     assert_declares(
         &rt,
@@ -31,19 +32,23 @@ fn reads_objects_and_types(rt: HostRuntime) -> Result<(), Fail> {
 fn reads_subprograms_and_tasks(rt: HostRuntime) -> Result<(), Fail> {
     assert_declares(
         &rt,
-        b"procedure Q (A, B : in INTEGER; C : out BOOLEAN; D : in out CHARACTER); procedure Q2 is begin null; end;",
+        b"procedure Q (A, B : in INTEGER; C : out BOOLEAN; D : in out CHARACTER);
+          procedure Q2 is begin null; end;",
     )?;
     assert_declares(
         &rt,
-        b"function F (A : INTEGER) return INTEGER is B : INTEGER; begin return A + B; exception when others => raise; end F;",
+        b"function F (A : INTEGER) return INTEGER is B : INTEGER; begin return A + B;
+          exception when others => raise; end F;",
     )?;
     assert_declares(
         &rt,
-        b"task T; task type U is entry E; entry G (1 .. 3) (A : INTEGER); entry H (A, B : out INTEGER); end U; T2 : U;",
+        b"task T; task type U is entry E; entry G (1 .. 3) (A : INTEGER);
+          entry H (A, B : out INTEGER); end U; T2 : U;",
     )?;
     assert_declares(
         &rt,
-        b"task body T is begin accept E; accept G (2) (A : INTEGER) do null; end G; accept H (A, B : out INTEGER); end;",
+        b"task body T is begin accept E; accept G (2) (A : INTEGER) do null; end G;
+          accept H (A, B : out INTEGER); end;",
     )?;
     assert_declares(
         &rt,
@@ -128,6 +133,59 @@ fn refuses_more_declarations_by_name(rt: HostRuntime) -> Result<(), Fail> {
     Ok(())
 }
 
+/// Objects and types stand before all bodies (3.9).
+#[test]
+fn refuses_late_declarations(rt: HostRuntime) -> Result<(), Fail> {
+    assert_not_declared(
+        &rt,
+        b"procedure Q is begin null; end; A : INTEGER;",
+        33,
+        Cause::LateDeclaration,
+    )?;
+    assert_not_declared(
+        &rt,
+        b"task T; task body T is begin null; end; type U is (V);",
+        41,
+        Cause::LateDeclaration,
+    )?;
+    assert_not_declared(
+        &rt,
+        b"procedure Q is begin null; end; subtype S is T;",
+        33,
+        Cause::LateDeclaration,
+    )?;
+    assert_declares(
+        &rt,
+        b"procedure Q is A : T; begin null; end; task T; pragma P; procedure R;
+          procedure R is begin null; end;",
+    )?;
+    Ok(())
+}
+
+/// What is no range (3.5, 3.6.1).
+#[test]
+fn refuses_what_is_no_range(rt: HostRuntime) -> Result<(), Fail> {
+    assert_not_declared(&rt, b"type T is range 5;", 17, Cause::NoRange)?;
+    assert_not_declared(&rt, b"subtype S is T range U;", 22, Cause::NoRange)?;
+    assert_not_declared(
+        &rt,
+        b"type T is array (3) of U;",
+        18,
+        Cause::NoDiscreteRange,
+    )?;
+    assert_not_declared(
+        &rt,
+        b"task T is entry E (3); end T;",
+        20,
+        Cause::NoDiscreteRange,
+    )?;
+    assert_declares(
+        &rt,
+        b"subtype S is T range U'RANGE; task W is entry E (S); entry F (U'RANGE); end W;",
+    )?;
+    Ok(())
+}
+
 /// Errors of the grammar.
 #[test]
 fn says_what_could_stand_in_declarations(rt: HostRuntime) -> Result<(), Fail> {
@@ -137,19 +195,13 @@ fn says_what_could_stand_in_declarations(rt: HostRuntime) -> Result<(), Fail> {
         &rt,
         b"type T is 5;",
         11,
-        Cause::Unexpected {
-            wanted: Wanted::TypeDefinition,
-            found: Kind::Integer,
-        },
+        unexpected(Wanted::TypeDefinition, Kind::Integer),
     )?;
     assert_not_declared(
         &rt,
         b"null;",
         1,
-        Cause::Unexpected {
-            wanted: Wanted::Declaration,
-            found: Kind::Null,
-        },
+        unexpected(Wanted::Declaration, Kind::Null),
     )?;
     assert_not_declared(
         &rt,

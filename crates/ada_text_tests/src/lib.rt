@@ -1,5 +1,5 @@
-//! Tests of the reader of Ada texts: the programs of the tour, each rule of the grammar, each refusal with its place, and
-//! the limits.
+//! Tests of the reader of Ada texts: the programs of the tour, each rule of the grammar, each refusal with its place,
+//! and the limits.
 #![tactic(auto)]
 
 #[cfg(test)]
@@ -9,10 +9,16 @@ mod declarations;
 #[cfg(test)]
 mod expressions;
 #[cfg(test)]
+mod faults;
+#[cfg(test)]
 mod limits;
+#[cfg(test)]
+mod shapes;
 #[cfg(test)]
 mod statements;
 #[cfg(test)]
 mod tour;
+#[cfg(test)]
+mod trees;
 #[cfg(test)]
 mod words;

@@ -1,8 +1,7 @@
 //! The limits of a text.
 
 use crate::common::{assert_read, assert_refused};
-use ada_text::{Cause, Place, read};
-use std::process::Abort;
+use ada_text::{Cause, Place};
 use std::test::Fail;
 
 /// A procedure that assigns a value in so many parentheses.
@@ -75,5 +74,61 @@ fn reads_up_to_1_mib(rt: HostRuntime) -> Result<(), Fail> {
         column: 1_048_577,
     };
     assert_refused(&rt, &text, place, Cause::TextTooLong);
+    Ok(())
+}
+
+/// A text that has a part so many times between two others.
+fn repeated<R: AllocGlobal>(
+    rt: &R,
+    before: &[u8],
+    part: &[u8],
+    count: usize,
+    after: &[u8],
+) -> Result<Vec<u8>, Fail> {
+    let mut text = Vec::new(rt.alloc());
+    text.extend_from_slice(before)?;
+    for _ in 0..count {
+        text.extend_from_slice(part)?;
+    }
+    text.extend_from_slice(after)?;
+    Ok(text)
+}
+
+/// 65,536 expressions are read, and no more: a name, a literal, and two with each further literal.
+#[test]
+fn reads_65536_expressions(rt: HostRuntime) -> Result<(), Fail> {
+    let before = b"procedure P is begin\nA:=1";
+    let more = repeated(&rt, before, b"+1", 32_768, b"; end;")?;
+    let place = Place {
+        line: 2,
+        column: 65_540,
+    };
+    assert_refused(&rt, &more, place, Cause::TooMany);
+    Ok(())
+}
+
+/// 65,536 statements are read, and no more.
+#[test]
+fn reads_65536_statements(rt: HostRuntime) -> Result<(), Fail> {
+    let before = b"procedure P is begin\n";
+    let more = repeated(&rt, before, b"null;", 65_537, b"end;")?;
+    let place = Place {
+        line: 2,
+        column: 327_681,
+    };
+    assert_refused(&rt, &more, place, Cause::TooMany);
+    Ok(())
+}
+
+/// 65,536 declarations are read, and no more.
+#[test]
+fn reads_65536_declarations(rt: HostRuntime) -> Result<(), Fail> {
+    let after = b"E: exception; begin null; end;";
+    let more = repeated(&rt, b"procedure P is\n", b"E,", 65_536, after)?;
+    let place = Place {
+        line: 2,
+        column: 131_073,
+    };
+    assert_refused(&rt, &more, place, Cause::TooMany);
     Ok(())
 }

@@ -28,6 +28,10 @@ fn refuses_words(rt: HostRuntime) -> Result<(), Fail> {
         6,
         Cause::NumberTooLarge,
     )?;
+    assert_not_done(&rt, b"A := 1B;", 6, Cause::BadNumber)?;
+    assert_not_done(&rt, b"if A = 1then null; end if;", 8, Cause::BadNumber)?;
+    assert_not_done(&rt, b"A__B := 1;", 1, Cause::BadName)?;
+    assert_not_done(&rt, b"A := B_ + 1;", 6, Cause::BadName)?;
     assert_not_done(&rt, b"A := #;", 6, Cause::BadCharacter)?;
     assert_not_done(&rt, b"A := \xe9;", 6, Cause::NotAscii)?;
     assert_not_done(&rt, b"PUT (\"abc);", 6, Cause::OpenText)?;

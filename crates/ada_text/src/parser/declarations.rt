@@ -1,6 +1,6 @@
 //! Reading declarations (3.1), and the heads of bodies.
 
-ghost use Rattle.std.specs.Prelude.{◌≡◌, ◌<◌, ◌≤◌, OnOk};
+ghost use Rattle.std.specs.Prelude.{◌<◌, ◌≤◌, OnOk};
 
 use super::{DEEPEST, Parser};
 use crate::fault::{Cause, Trouble, Wanted};
@@ -77,6 +77,16 @@ impl<'a> Parser<'a> {
             found => return Err(self.refused(no_declaration(found))),
         }
         Ok(None)
+    }
+
+    /// After a body stand declarations of subprograms and tasks, further bodies and pragmas alone (3.9).
+    pub fn check_order(&self, after_body: bool) -> Result<(), Trouble> {
+        match self.kind() {
+            Kind::Identifier | Kind::Type | Kind::Subtype if after_body => {
+                Err(self.refused(Cause::LateDeclaration))
+            }
+            _ => Ok(()),
+        }
     }
 
     /// Reads names with commas between them (3.2).

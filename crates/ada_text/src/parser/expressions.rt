@@ -1,6 +1,6 @@
 //! Reading expressions (4.4) and names (4.1).
 
-ghost use Rattle.std.specs.Prelude.{◌≡◌, ◌<◌, ◌≤◌, OnOk, IfOk};
+ghost use Rattle.std.specs.Prelude.{◌≡◌, ◌<◌, ◌≤◌, OnOk};
 
 use super::{Parser, deeper};
 use crate::attributes::attribute_of;
@@ -50,6 +50,9 @@ impl<'a> Parser<'a> {
     ) -> Result<ExpressionId, Trouble>
         ensures { self.new ≡ self.old }
     {
+        if is_membership(operator) {
+            self.check_discrete_range(right)?;
+        }
         self.expression_node(
             at,
             ExpressionForm::Binary {
@@ -363,8 +366,8 @@ impl<'a> Parser<'a> {
             if self.accept(Kind::Arrow) {
                 choices.push(value)?;
                 value = self.expression(below)?;
-            } else if !choices.is_empty() {
-                return Err(self.unexpected(Wanted::Word(Kind::Arrow)));
+            } else {
+                self.check_component(&choices, value)?;
             }
             let choices = mem::replace(&mut choices, Vec::new(self.alloc));
             components.push(Association { choices, value })?;
@@ -392,7 +395,7 @@ impl<'a> Parser<'a> {
         }
         if self.accept(Kind::Range) {
             let range = self.range(depth)?;
-            return self.expression_node(at, ExpressionForm::Constrained { mark: low, range });
+            return self.constrained(low, range, at);
         }
         Ok(low)
     }

@@ -1,6 +1,6 @@
 //! Adding nodes to the tree.
 
-ghost use Rattle.std.specs.Prelude.{◌≡◌, ◌<◌, ◌≤◌, IfOk, OnOk};
+ghost use Rattle.std.specs.Prelude.{◌≡◌, ◌<◌, IfOk, OnOk};
 
 use super::Parser;
 use super::declarations::UnitHead;

@@ -1,6 +1,6 @@
 //! The operators that words stand for (4.5).
 
-ghost use Rattle.std.specs.Prelude.{◌<◌, ◌≤◌, OnSome, OnOk, IfOk};
+ghost use Rattle.std.specs.Prelude.{◌<◌, ◌≤◌, OnSome, IfOk};
 
 use super::Parser;
 use crate::fault::{Cause, Trouble};

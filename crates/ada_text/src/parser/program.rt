@@ -1,6 +1,6 @@
 //! Reading a whole text: a main procedure after its context clause (10.1).
 
-ghost use Rattle.std.specs.Prelude.{◌≡◌, ◌<◌, ◌≤◌, OnOk};
+ghost use Rattle.std.specs.Prelude.{◌<◌, ◌≤◌, OnOk};
 
 use super::{DEEPEST, Parser};
 use crate::fault::{Cause, Trouble, Wanted};

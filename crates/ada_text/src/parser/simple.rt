@@ -1,6 +1,6 @@
 //! Reading statements that contain no others (chapter 5), and the heads and ends of those that do.
 
-ghost use Rattle.std.specs.Prelude.{◌≡◌, ◌<◌, ◌≤◌, OnOk};
+ghost use Rattle.std.specs.Prelude.{◌<◌, ◌≤◌, OnOk};
 
 use super::{DEEPEST, Parser};
 use crate::fault::{Cause, Trouble, Wanted};
@@ -53,7 +53,10 @@ impl<'a> Parser<'a> {
         }
         let name = self.identifier()?;
         self.expect(Kind::Colon)?;
-        Ok(Some(name))
+        match self.kind() {
+            Kind::Loop | Kind::While | Kind::For | Kind::Declare | Kind::Begin => Ok(Some(name)),
+            _ => Err(self.unexpected(Wanted::Word(Kind::Loop))),
+        }
     }
 
     /// Reads a statement that contains no other (5.1).
@@ -71,23 +74,30 @@ impl<'a> Parser<'a> {
         self.statement_node(at, form)
     }
 
-    /// Reads a null statement (5.1), a delay statement (9.6), a raise statement (11.3) or `terminate` (9.7.1).
+    /// Reads a null statement (5.1), a delay statement (9.6) or a raise statement (11.3).
     fn keyword_form(&mut self) -> Result<StatementForm, Trouble>
         ensures { OnOk result (self.new ≤ self.old) }
     {
         if self.accept(Kind::Null) {
             return Ok(StatementForm::Null);
         }
-        if self.accept(Kind::Terminate) {
-            return Ok(StatementForm::Terminate);
-        }
         if self.accept(Kind::Delay) {
             return Ok(StatementForm::Delay(self.simple_expression(DEEPEST)?));
         }
         if self.accept(Kind::Raise) {
-            return Ok(StatementForm::Raise(self.optional_expression()?));
+            return Ok(StatementForm::Raise(self.raised()?));
         }
         Err(self.refused(no_statement(self.kind())))
+    }
+
+    /// Reads the name of an exception, unless the statement ends (11.3).
+    fn raised(&mut self) -> Result<Option<ExpressionId>, Trouble>
+        ensures { OnOk result (self.new ≤ self.old) }
+    {
+        if self.kind() == Kind::Semicolon {
+            return Ok(None);
+        }
+        Ok(Some(self.simple_name()?))
     }
 
     /// Reads an expression, unless the statement ends.
@@ -104,7 +114,7 @@ impl<'a> Parser<'a> {
     fn call_or_assignment(&mut self) -> Result<StatementForm, Trouble>
         ensures { OnOk result (self.new ≤ self.old) }
     {
-        let target = self.name(DEEPEST)?;
+        let target = self.target()?;
         if self.accept(Kind::Assignment) {
             let value = self.expression(DEEPEST)?;
             return Ok(StatementForm::Assignment { target, value });
@@ -113,6 +123,15 @@ impl<'a> Parser<'a> {
             return Err(self.unexpected(Wanted::CallOrAssignment));
         }
         Ok(StatementForm::Call(target))
+    }
+
+    /// Reads the name of what is called (6.4, 9.5) or assigned to (5.2).
+    pub fn target(&mut self) -> Result<ExpressionId, Trouble>
+        ensures { OnOk result (self.new < self.old) }
+    {
+        let target = self.name(DEEPEST)?;
+        self.check_target(target)?;
+        Ok(target)
     }
 
     /// Reads an exit statement (5.7).
@@ -196,7 +215,7 @@ impl<'a> Parser<'a> {
         let parameter = self.identifier()?;
         self.expect(Kind::In)?;
         let is_reverse = self.accept(Kind::Reverse);
-        let range = self.choice(DEEPEST)?;
+        let range = self.discrete_range()?;
         Ok(Iteration::For {
             parameter,
             range,

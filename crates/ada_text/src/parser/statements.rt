@@ -1,6 +1,6 @@
 //! Reading statements (chapter 5), and bodies with their declarations, which statements may contain.
 
-ghost use Rattle.std.specs.Prelude.{◌≡◌, ◌<◌, ◌≤◌, OnOk};
+ghost use Rattle.std.specs.Prelude.{◌<◌, ◌≤◌, OnOk};
 
 use super::declarations::UnitHead;
 use super::{DEEPEST, Parser, deeper};
@@ -170,7 +170,12 @@ impl<'a> Parser<'a> {
         self.expect(Kind::Select)?;
         'alternatives: loop {
             let guard = self.guard()?;
-            let event = self.statement(below)?;
+            let start = self.at();
+            let event = if self.kind() == Kind::Accept {
+                self.accept_statement(below, start)?
+            } else {
+                self.event(start)?
+            };
             let mut statements = Vec::new(self.alloc);
             if !ends_statements(self.kind()) {
                 statements = self.statements(below)?;
@@ -218,10 +223,13 @@ impl<'a> Parser<'a> {
         ensures { OnOk result (self.new ≤ self.old) }
     {
         let mut declarations = Vec::new(self.alloc);
+        let mut after_body = false;
         'declarations: while self.kind() != Kind::Begin {
+            self.check_order(after_body)?;
             if let Some(head) = self.declaration(&mut declarations)? {
                 let unit = self.unit(head, depth)?;
                 declarations.push(unit)?;
+                after_body = true;
             }
         }
         Ok(declarations)

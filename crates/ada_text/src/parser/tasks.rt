@@ -1,6 +1,6 @@
 //! Reading tasks and their entries (chapter 9).
 
-ghost use Rattle.std.specs.Prelude.{◌≡◌, ◌<◌, ◌≤◌, OnOk};
+ghost use Rattle.std.specs.Prelude.{◌<◌, ◌≤◌, OnOk};
 
 use super::declarations::UnitHead;
 use super::{DEEPEST, Parser};
@@ -8,8 +8,7 @@ use crate::fault::{Cause, Trouble};
 use crate::kind::Kind;
 use crate::tree::declaration::{DeclarationForm, DeclarationId};
 use crate::tree::expression::{ExpressionId, Identifier};
-use crate::tree::statement::{StatementForm, StatementId};
-use crate::tree::task::{Accept, Entry, Select, SelectAlternative};
+use crate::tree::task::{Accept, Entry};
 
 impl<'a> Parser<'a> {
     /// Reads the declaration of a task or a task type, or the head of its body (9.1).
@@ -73,15 +72,33 @@ impl<'a> Parser<'a> {
             && matches!(self.third_kind(), Kind::Colon | Kind::Comma)
     }
 
-    /// Reads a range or an index in parentheses, if one stands there (9.5).
-    fn family_part(&mut self) -> Result<Option<ExpressionId>, Trouble>
+    /// Whether the range or the index of a family stands next (9.5).
+    fn is_family_ahead(&self) -> bool {
+        self.kind() == Kind::LeftParenthesis && !self.is_formal_part_ahead()
+    }
+
+    /// Reads the range of a family, if one stands there (9.5).
+    fn family_range(&mut self) -> Result<Option<ExpressionId>, Trouble>
         ensures { OnOk result (self.new ≤ self.old) }
     {
-        if self.kind() != Kind::LeftParenthesis || self.is_formal_part_ahead() {
+        if !self.is_family_ahead() {
             return Ok(None);
         }
         self.take();
-        let index = self.choice(DEEPEST)?;
+        let range = self.discrete_range()?;
+        self.expect(Kind::RightParenthesis)?;
+        Ok(Some(range))
+    }
+
+    /// Reads the index of an entry in its family, if one stands there (9.5).
+    fn family_index(&mut self) -> Result<Option<ExpressionId>, Trouble>
+        ensures { OnOk result (self.new ≤ self.old) }
+    {
+        if !self.is_family_ahead() {
+            return Ok(None);
+        }
+        self.take();
+        let index = self.expression(DEEPEST)?;
         self.expect(Kind::RightParenthesis)?;
         Ok(Some(index))
     }
@@ -91,7 +108,7 @@ impl<'a> Parser<'a> {
         ensures { OnOk result (self.new ≤ self.old) }
     {
         let name = self.identifier()?;
-        let range = self.family_part()?;
+        let range = self.family_range()?;
         let parameters = self.formal_part()?;
         self.semicolon()?;
         Ok(Entry {
@@ -107,7 +124,7 @@ impl<'a> Parser<'a> {
     {
         self.expect(Kind::Accept)?;
         let entry = self.identifier()?;
-        let index = self.family_part()?;
+        let index = self.family_index()?;
         let parameters = self.formal_part()?;
         Ok(Accept {
             entry,
@@ -115,35 +132,5 @@ impl<'a> Parser<'a> {
             parameters,
             statements: Vec::new(self.alloc),
         })
-    }
-
-    /// Reads the guard of an alternative, if it has one (9.7.1).
-    pub fn guard(&mut self) -> Result<Option<ExpressionId>, Trouble>
-        ensures { OnOk result (self.new ≤ self.old) }
-    {
-        if !self.accept(Kind::When) {
-            return Ok(None);
-        }
-        let condition = self.expression(DEEPEST)?;
-        self.expect(Kind::Arrow)?;
-        Ok(Some(condition))
-    }
-
-    /// Adds a select statement (9.7).
-    pub fn select_node(
-        &mut self,
-        at: u32,
-        alternatives: Vec<SelectAlternative>,
-        otherwise: Option<Vec<StatementId>>,
-    ) -> Result<StatementId, Trouble>
-        ensures { self.new ≡ self.old }
-    {
-        self.statement_node(
-            at,
-            StatementForm::Select(Select {
-                alternatives,
-                otherwise,
-            }),
-        )
     }
 }

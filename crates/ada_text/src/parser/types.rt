@@ -1,13 +1,13 @@
 //! Reading types (3.3).
 
-ghost use Rattle.std.specs.Prelude.{◌≡◌, ◌<◌, ◌≤◌, OnOk};
+ghost use Rattle.std.specs.Prelude.{◌<◌, ◌≤◌, OnOk};
 
 use super::declarations::ObjectDefinition;
 use super::{DEEPEST, Parser};
 use crate::fault::{Cause, Trouble, Wanted};
 use crate::kind::Kind;
 use crate::tree::declaration::{DeclarationForm, DeclarationId, TypeDefinition};
-use crate::tree::expression::{ExpressionForm, ExpressionId, Identifier};
+use crate::tree::expression::{ExpressionId, Identifier};
 
 /// Why no type of the subset is defined by such a word.
 fn no_type(kind: Kind) -> Cause {
@@ -68,7 +68,7 @@ impl<'a> Parser<'a> {
             Kind::Range => {
                 self.take();
                 let range = self.range(DEEPEST)?;
-                self.expression_node(at, ExpressionForm::Constrained { mark, range })
+                self.constrained(mark, range, at)
             }
             _ => Ok(mark),
         }
@@ -94,7 +94,7 @@ impl<'a> Parser<'a> {
         if self.second_kind() == Kind::Range && self.third_kind() == Kind::Box {
             return Err(self.refused(Cause::UnconstrainedArrays));
         }
-        let index = self.choice(DEEPEST)?;
+        let index = self.discrete_range()?;
         if self.kind() == Kind::Comma {
             return Err(self.refused(Cause::SeveralDimensions));
         }
@@ -123,7 +123,9 @@ impl<'a> Parser<'a> {
         ensures { OnOk result (self.new ≤ self.old) }
     {
         self.expect(Kind::Range)?;
-        Ok(TypeDefinition::Integer(self.range(DEEPEST)?))
+        let range = self.range(DEEPEST)?;
+        self.check_range(range)?;
+        Ok(TypeDefinition::Integer(range))
     }
 
     /// Reads the literals of an enumeration type (3.5.1).

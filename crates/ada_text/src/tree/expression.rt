@@ -11,8 +11,8 @@ pub struct Identifier {
     pub end: u32,
 }
 
-/// An expression, or a range or a choice, which stand among expressions; and the index of the byte where it begins, or of
-/// its operator.
+/// An expression, or a range or a choice, which stand among expressions; and the index of the byte where it begins, or
+/// of its operator, or of what follows its prefix.
 #[derive(Drop)]
 pub struct Expression {
     pub at: u32,

@@ -1,5 +1,5 @@
 use Rattle.std.proofs.Common.{◌≤◌, length, ◌-◌, All}
-use Rattle.ada_text.specs.Words.{IsWordOf}
+use Rattle.ada_text.specs.internal.Words.{IsWordOf}
 use Rattle.ada_text.proofs.lexer.cut.Given as goal
 
 abbrev pub invariant-loop-words : goal.invariant-loop-words

@@ -1,4 +1,4 @@
-use Rattle.std.proofs.Common.{ℕ, ◌+◌, ◌*◌, ◌<◌, ◌≤◌}
+use Rattle.std.proofs.Common.{◌+◌, ◌*◌, ◌<◌, ◌≤◌}
 use Rattle.ada_text.proofs.parser.Parser.+statement.Given as goal
 
 abbrev pub decreases-statements : goal.decreases-statements
