@@ -198,6 +198,7 @@ module _ (freedom : Freedom) (script : List Line) (wanted : Wanted) (start : Lis
   accepted_on here turn _ request (Acts.accepted other journal asked accepted after) covers asks unrefused =
       let same : other ≡ request = same_Some other request (sym asked ∙ asks) in
       record { journal = journal; after = subst (λ (r : Request). After here.journal r journal) same after; covered = covers }
+  accepted_on here turn _ request (Acts.alone left none leaves) covers asks unrefused = absurd (none-some left leaves)
   accepted_on here turn _ request (Acts.refused other cause asked refused) covers asks unrefused =
       let same : other ≡ request = same_Some other request (sym asked ∙ asks) in
       absurd (none-some cause (sym unrefused ∙ sym (ap (refusal_but_limits here.journal) same) ∙ refused))
@@ -208,6 +209,7 @@ module _ (freedom : Freedom) (script : List Line) (wanted : Wanted) (start : Lis
   refused_on here turn _ request cause (Acts.accepted other journal asked accepted after) covers asks refused =
       let same : other ≡ request = same_Some other request (sym asked ∙ asks) in
       absurd (none-some cause (sym accepted ∙ ap (refusal_but_limits here.journal) same ∙ refused))
+  refused_on here turn _ request cause (Acts.alone left none leaves) covers asks refused = absurd (none-some left leaves)
   refused_on here turn _ request cause (Acts.refused other reason asked also) covers asks refused =
       let same : other ≡ request = same_Some other request (sym asked ∙ asks) in
       let one : reason ≡ cause = same_Some reason cause (sym also ∙ ap (refusal_but_limits here.journal) same ∙ refused) in
@@ -223,6 +225,7 @@ module _ (freedom : Freedom) (script : List Line) (wanted : Wanted) (start : Lis
     refused = λ here turn request cause within asks refused.
         let on = (well here within).steps turn request asks in
         refused_on here turn on.to request cause on.acts on.covered asks refused;
+    alone = λ here turn left within asks leaves. absurd (none-some left leaves);
   }
 
   -- what covers a state is as is wanted, so that is, too

@@ -3,6 +3,7 @@ use Rattle.std.proofs.Common.{◌≡◌, ℕ, Bool, true, false, cond, Option, S
 use Rattle.std.specs.Option.{option_map, option_map_or}
 use Rattle.std.specs.Map.{lookup}
 use Rattle.std.specs.Str.{bytes_eq}
+use Rattle.std.proofs.lemmas.Option.{none-some}
 use Rattle.ada_events.specs.declared.names.TaskNo.{TaskNo}
 use Rattle.ada_statements.specs.declared.meaning.Made.{Made}
 use Rattle.ada_statements.specs.declared.meaning.Meaning.{Meaning}
@@ -75,6 +76,7 @@ act_keeps freedom script (Say place pick) from _ name (Acts.accepted request jou
     bound_keeps script from.rest.names place _ _ name
 act_keeps freedom script Pass from _ name (Acts.accepted request journal asks accepted after) = refl
 act_keeps freedom script turn from _ name (Acts.refused request cause asks refused) = refl
+act_keeps freedom script turn from _ name (Acts.alone rest none leaves) = absurd (none-some rest leaves)
 
 -- a schedule changes none
 comes_keeps : (freedom : Freedom) (script : List Line) (turns : List Turn) (to : State Rest) (name : List ℕ) → Comes (scripted freedom script) turns to

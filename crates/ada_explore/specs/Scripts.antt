@@ -119,7 +119,8 @@ abbrev pub names_after : List Line → Scope → Turn → ℕ → TaskNo → Sco
 names_after script names (Say place pick) at made = bound_so script names place at made
 names_after script names Pass at made = names
 
--- a script as a program: a choice is a turn. A line that is refused is said, and changes nothing else
+-- a script as a program: a choice is a turn, and each asks for something. A line that is refused is said, and changes
+-- nothing else
 abbrev pub scripted : Freedom → List Line → Program
 scripted freedom script = record {
   Rest = Rest;
@@ -131,6 +132,7 @@ scripted freedom script = record {
     names = names_after script rest.names turn (length journal + 1) (task_no (task_count journal));
   };
   refused = λ rest turn cause. record { left = left_after turn rest.left; names = rest.names };
+  alone = λ journal rest turn. None;
 }
 
 -- where a schedule of a script has come to

@@ -1,30 +1,17 @@
 -- What each task does, one task more at a time.
-use Rattle.std.proofs.Common.{◌≡◌, ◌⊎◌, inl, inr, ℕ, zero, suc, ◌+◌, Some, List, [], ◌∷◌, ◌++◌, length, slice_get, refl, sym, ap, ◌∙◌, subst}
+use Rattle.std.proofs.Common.{◌≡◌, ◌⊎◌, inl, inr, ℕ, ◌+◌, Some, List, [], ◌∷◌, ◌++◌, length, slice_get, sym, ap, ◌∙◌, subst}
 use Rattle.std.proofs.lemmas.List.{length-append}
-use Rattle.std.proofs.lemmas.Option.{none-some, same_Some}
 use Rattle.ada_events.specs.declared.event.Event.{Event}
 use Rattle.ada_page.specs.declared.standing.Doing.{Doing}
 use Rattle.ada_page.specs.Standing.{IsDoing}
-
--- an item of a list with one more at its end is of the list, or that one
-found : (doings : List Doing) (last : Doing) (task : ℕ) (doing : Doing) → slice_get (doings ++ last ∷ []) task ≡ Some doing
-    → (slice_get doings task ≡ Some doing) ⊎ ((task ≡ length doings) × (last ≡ doing))
-found [] last zero doing is = inr (refl, same_Some last doing is)
-found [] last (suc task) doing is = absurd (none-some doing is)
-found (first ∷ doings) last zero doing is = inl is
-found (first ∷ doings) last (suc task) doing is = shifted (found doings last task doing is)
-  where
-    shifted : (slice_get doings task ≡ Some doing) ⊎ ((task ≡ length doings) × (last ≡ doing))
-        → (slice_get doings task ≡ Some doing) ⊎ ((suc task ≡ suc (length doings)) × (last ≡ doing))
-    shifted (inl there) = inl there
-    shifted (inr (at, same)) = inr (ap suc at, same)
+use Rattle.ada_page.proofs.Lists.{last_or_earlier}
 
 -- each task of a list, to which the task of the next number comes
 one_doing_more : (journal : List Event) (doings more : List Doing) (n : ℕ) (last : Doing) → length doings ≡ n → IsDoing journal n last
     → ((task : ℕ) (doing : Doing) → slice_get doings task ≡ Some doing → IsDoing journal task doing) → more ≡ doings ++ last ∷ []
     → (task : ℕ) (doing : Doing) → slice_get more task ≡ Some doing → IsDoing journal task doing
 one_doing_more journal doings more n last long is each grown task doing at =
-    either (found doings last task doing (subst (λ ds. slice_get ds task ≡ Some doing) grown at))
+    either (last_or_earlier doings last task doing (subst (λ ds. slice_get ds task ≡ Some doing) grown at))
   where
     either : (slice_get doings task ≡ Some doing) ⊎ ((task ≡ length doings) × (last ≡ doing)) → IsDoing journal task doing
     either (inl there) = each task doing there

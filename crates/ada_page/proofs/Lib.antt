@@ -1,5 +1,5 @@
 pub mod Doings
-pub mod Rising
-pub mod Reasoned
-pub mod Queueing
+pub mod Lists
 pub mod Showing
+pub mod Following
+pub mod Growing

@@ -1,8 +1,10 @@
--- What stands in a journal: what each task does, who waits at which entry, and what can let it go on.
-use Rattle.std.specs.Prelude.{◌≡◌, ℕ, Bool, List, Some, length, slice_get}
-use Rattle.std.specs.List.{filter}
+-- What stands in a journal: what each task does, what can let it go on, and who waits at which entry.
+use Rattle.std.specs.Prelude.{◌≡◌, ℕ, ◌≤◌, ◌+◌, ◌-◌, suc, Bool, List, Vec, Some, length, slice_get}
+use Rattle.std.specs.declared.alloc.Global.{Global}
+use Rattle.std.specs.List.{All, filter}
 use Rattle.ada_events.specs.declared.event.Event.{Event}
 use Rattle.ada_events.specs.declared.names.Entry.{Entry}
+use Rattle.ada_events.specs.Boards.{first_events}
 use Rattle.ada_events.specs.Search.{is_some_and, event_at}
 use Rattle.ada_events.specs.Tasks.{task_count}
 use Rattle.ada_events.specs.Phases.{is_running}
@@ -29,12 +31,17 @@ pub record AreDoings (journal : List Event) (doings : List Doing) : Type 0 where
 abbrev pub is_call_at : List Event → ℕ → Entry → ℕ → Bool
 is_call_at journal task entry position = is_some_and (event_at journal position) (is_call_of task entry)
 
--- of all calls those of an entry are its queue, in its order
-abbrev pub AreQueued : List Event → List ℕ → Type 0
-AreQueued journal calls = (task : ℕ) (entry : Entry) → filter (is_call_at journal task entry) calls ≡ queue journal task entry
+-- the positions of the calls that stand in queues: of all those at an entry are its queue, in its order
+pub record AreQueued (journal : List Event) (calls : List ℕ) : Type 0 where
+  pub within : All (λ p. p ≤ length journal) calls
+  pub each : (task : ℕ) (entry : Entry) → filter (is_call_at journal task entry) calls ≡ queue journal task entry
 
--- what each task does, which calls stand in queues, and what can let the journal go on
+-- which calls stood in queues when there were so many events, and after each that came since
+pub record AreQueuedSince (known : ℕ) (journal : List Event) (queues : List (Vec ℕ Global)) : Type 0 where
+  pub all : length queues ≡ suc (length journal - known)
+  pub each : (k : ℕ) (calls : Vec ℕ Global) → slice_get queues k ≡ Some calls → AreQueued (first_events (known + k) journal) calls.items
+
+-- what each task does, and what can let the journal go on
 pub record IsStanding (journal : List Event) (standing : Standing) : Type 0 where
   pub doings : AreDoings journal standing.doings.items
-  pub queued : AreQueued journal standing.queued.items
   pub verdict : standing.verdict ≡ verdict_of journal

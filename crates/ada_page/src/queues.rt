@@ -1,6 +1,6 @@
 //! Who waits at which entry, in which order.
 
-use crate::standing::Standing;
+use crate::changing::Changing;
 use ada_events::journal::event_in;
 use ada_events::{Entry, Event, TaskNo};
 use ada_explain::Scene;
@@ -23,39 +23,68 @@ impl Queued {
     }
 }
 
-/// The calls that stand in queues, in the order in which they came.
+/// Calls that stand in queues, in the order in which they came.
 #[derive(Drop)]
-pub struct Queues {
-    /// Their positions.
-    positions: Vec<u32>,
+struct Calls {
     calls: Vec<Queued>,
     /// The name of each task as an item of a list, in quotation marks after a comma.
     items: Vec<String>,
 }
 
+/// The calls that stand in queues, and what was told last of them.
+#[derive(Drop)]
+pub struct Queues {
+    /// Their positions, in the order in which they came.
+    positions: Vec<u32>,
+    calls: Calls,
+    told: Changing,
+}
+
 impl Queues {
-    /// No call stands in a queue.
+    /// No call stands in a queue, and nothing was told yet.
     pub fn new(alloc: Global) -> Self {
         Queues {
             positions: Vec::new(alloc),
-            calls: Vec::new(alloc),
-            items: Vec::new(alloc),
+            calls: Calls {
+                calls: Vec::new(alloc),
+                items: Vec::new(alloc),
+            },
+            told: Changing::new(alloc),
         }
     }
 
-    /// Takes the queues of a kernel in place of these, by what stands there; whether they are others.
-    pub fn take(&mut self, scene: Scene<'_>, standing: &Standing) -> Result<bool, AllocError> {
-        if self.positions.as_slice() == standing.queued.as_slice() {
-            return Ok(false);
+    /// The calls.
+    pub fn calls(&self) -> &[Queued] {
+        &self.calls.calls
+    }
+
+    /// Takes the calls at some positions in place of these, and appends the callers of each queue that isn't empty, the
+    /// first one first, as a member of an object, unless that was told last.
+    pub fn tell(
+        &mut self,
+        out: &mut String,
+        scene: Scene<'_>,
+        positions: &[u32],
+    ) -> Result<(), AllocError> {
+        if self.positions.as_slice() == positions && !self.told.is_untold() {
+            return Ok(());
         }
         self.positions.clear();
-        self.positions.extend_from_slice(&standing.queued)?;
+        self.positions.extend_from_slice(positions)?;
+        self.calls.take(scene, positions)?;
+        self.calls.write(self.told.anew(), scene)?;
+        self.told.put(out, ",\"queues\":")
+    }
+}
+
+impl Calls {
+    // Takes the calls at some positions in place of these.
+    fn take(&mut self, scene: Scene<'_>, positions: &[u32]) -> Result<(), AllocError> {
         self.calls.clear();
-        for call in &standing.queued {
+        for call in positions {
             self.push(scene, *call)?;
         }
-        self.name(scene, standing.doings.len())?;
-        Ok(true)
+        self.name(scene)
     }
 
     // Puts a call last.
@@ -81,9 +110,9 @@ impl Queues {
         Ok(())
     }
 
-    // Names as many tasks, those that were named before left out.
-    fn name(&mut self, scene: Scene<'_>, tasks: usize) -> Result<(), AllocError> {
-        for task in self.items.len()..tasks {
+    // Names the tasks that weren't named before.
+    fn name(&mut self, scene: Scene<'_>) -> Result<(), AllocError> {
+        for task in self.items.len()..usize::from(scene.kernel.tasks()) {
             let mut item = String::new(*self.items.allocator());
             item.push_str(",\"")?;
             item.push_str(scene.task(TaskNo((task % 65_536) as u16)))?;
@@ -101,13 +130,7 @@ impl Queues {
         }
     }
 
-    /// The calls.
-    pub fn calls(&self) -> &[Queued] {
-        &self.calls
-    }
-
-    /// Appends the callers of each queue that isn't empty, the first one first.
-    pub fn write(&self, out: &mut String, scene: Scene<'_>) -> Result<(), AllocError> {
+    fn write(&self, out: &mut String, scene: Scene<'_>) -> Result<(), AllocError> {
         let mut before = "[";
         for queued in &self.calls {
             if queued.is_first {

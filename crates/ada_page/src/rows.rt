@@ -1,5 +1,7 @@
 //! The rows of a play: the beginning, and a row for each printed line.
 
+use crate::queues::Queues;
+use crate::telling::Said;
 use crate::texts::{put_member, put_number, put_word};
 use ada_events::journal::event_in;
 use ada_events::{Event, TaskNo};
@@ -25,6 +27,21 @@ pub struct Rows {
     because: String,
     /// A list of objects, whose last one is open.
     pub out: String,
+}
+
+/// The events of a line, from the first one to the last one.
+#[derive(Clone, Copy)]
+struct Group {
+    line: u32,
+    first: u32,
+    last: u32,
+}
+
+impl Group {
+    // How many of its events have come with that at a position.
+    fn place(&self, position: u32) -> usize {
+        position.saturating_sub(self.first).saturating_add(1) as usize
+    }
 }
 
 // What a task does, in a word.
@@ -83,18 +100,20 @@ impl Rows {
         })
     }
 
-    /// Ends the last row and begins one of a line, after whose answer this is what was printed.
+    /// Ends the last row and begins one of a line, after whose answer this is what was printed; in a row of an event it
+    /// tells what stands in queues after it.
     pub fn write_answer(
         &mut self,
         scene: Scene<'_>,
-        line: u32,
-        answer: Answer,
-        printed: &[u8],
+        said: Said<'_>,
+        queues: &mut Queues,
     ) -> Result<(), AllocError> {
-        let mut printed = Lines::new(printed);
-        match answer {
+        let line = said.line.line;
+        let mut printed = Lines::new(said.printed);
+        match said.answer {
             Answer::Group { first, last } => {
-                self.write_group(scene, line, first, last, &mut printed)
+                let group = Group { line, first, last };
+                self.write_group(scene, group, &mut printed, said.queued, queues)
             }
             Answer::Refused(cause) => {
                 self.begin_row(line, "refused")?;
@@ -133,19 +152,22 @@ impl Rows {
     fn write_group(
         &mut self,
         scene: Scene<'_>,
-        line: u32,
-        first: u32,
-        last: u32,
+        group: Group,
         printed: &mut Lines<'_>,
+        queued: &[Vec<u32>],
+        queues: &mut Queues,
     ) -> Result<(), AllocError> {
-        for position in first..=last {
-            self.begin_line(line)?;
+        for position in group.first..=group.last {
+            self.begin_line(group.line)?;
             put_number(&mut self.out, ",\"position\":", position)?;
-            if position > first {
-                put_number(&mut self.out, ",\"forced_by\":", first)?;
+            if position > group.first {
+                put_number(&mut self.out, ",\"forced_by\":", group.first)?;
             }
             self.put_printed(without_position(next_of(printed)))?;
             self.put_event(scene, position)?;
+            if let Some(calls) = queued.get(group.place(position)) {
+                queues.tell(&mut self.out, scene, calls)?;
+            }
         }
         Ok(())
     }

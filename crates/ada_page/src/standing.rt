@@ -1,11 +1,8 @@
 //! What stands in the journal of a kernel.
-ghost use Rattle.std.specs.Prelude.{◌≡◌, ◌↔◌, ◌<◌, ℕ, IfOk};
-ghost use Rattle.std.specs.List.{Contains};
-ghost use Rattle.std.specs.List.Sorted.{IsStrictlyIncreasing};
+ghost use Rattle.std.specs.Prelude.{◌≡◌, ◌<◌, IfOk};
 ghost use Rattle.ada_events.specs.Tasks.{task_count};
 ghost use Rattle.ada_tables.specs.Layers.{members};
-ghost use Rattle.ada_page.specs.Standing.{IsDoing, AreDoings, AreQueued, IsStanding};
-ghost use Rattle.ada_page.specs.internal.Queued.{queued_by, queued_in};
+ghost use Rattle.ada_page.specs.Standing.{IsDoing, AreDoings, IsStanding};
 
 use ada_events::{Member, TaskNo};
 use ada_kernel::Kernel;
@@ -31,23 +28,8 @@ pub struct Doing {
 pub struct Standing {
     /// What each task does, in order of their creation, the main program first.
     pub doings: Vec<Doing>,
-    /// The positions of the calls that stand in the queues of entries, in the order in which they came (9.5).
-    pub queued: Vec<u32>,
     /// What can let the journal go on.
     pub verdict: Verdict,
-}
-
-impl Doing {
-    // The position of the task's call, if that stands in a queue.
-    #[tactic(auto, unfolding(crate::specs::internal::Queued::queued_by))]
-    fn queued(&self) -> Option<u32>
-        ensures { result ≡ queued_by self.now.reason }
-    {
-        match self.reason {
-            Some(Reason::Queued { call }) => Some(call),
-            _ => None,
-        }
-    }
 }
 
 // The members of a nest.
@@ -75,52 +57,20 @@ fn doing_of(alloc: Global, kernel: &Kernel, task: TaskNo) -> Result<Doing, Alloc
 fn doings_of(alloc: Global, kernel: &Kernel) -> Result<Vec<Doing>, AllocError>
     ensures { IfOk result (λ doings. AreDoings kernel.now doings.items) }
 {
-    let mut doings = Vec::new(alloc);
+    let mut doings = Vec::with_capacity(alloc, usize::from(kernel.tasks()))?;
     for task in 0..kernel.tasks() {
         doings.push(doing_of(alloc, kernel, TaskNo(task))?)?;
     }
     Ok(doings)
 }
 
-// The positions of the calls that stand in queues, task by task.
-fn calls_of(alloc: Global, doings: &[Doing]) -> Result<Vec<u32>, AllocError>
-    ensures { IfOk result (λ calls. calls.items ≡ queued_in doings.now) }
-{
-    doings
-        .iter()
-        .filter_map(|doing| doing.queued())
-        .collect(alloc)
-}
-
-// The same positions, the first one first, each once.
-fn in_order(mut calls: Vec<u32>) -> Vec<u32>
-    ensures rise { IsStrictlyIncreasing result.items }
-    ensures same { (call : ℕ) → Contains result.items call ↔ Contains calls.items call }
-{
-    calls.sort_unstable();
-    calls.dedup();
-    calls
-}
-
-// The positions of the calls in the queues of a kernel whose tasks do that.
-fn queues_of(alloc: Global, kernel: &Kernel, doings: &[Doing]) -> Result<Vec<u32>, AllocError>
-    requires { AreDoings kernel.now doings.now }
-    ensures { IfOk result (λ calls. AreQueued kernel.now calls.items) }
-{
-    let _journal = kernel.journal();
-    let calls = calls_of(alloc, doings)?;
-    Ok(in_order(calls))
-}
-
-/// What stands in the journal of a kernel: what each task does, who waits at which entry, and what can let it go on.
+/// What stands in the journal of a kernel: what each task does, and what can let it go on.
 pub fn standing_of(alloc: Global, kernel: &Kernel) -> Result<Standing, AllocError>
     ensures { IfOk result (IsStanding kernel.now) }
 {
     let doings = doings_of(alloc, kernel)?;
-    let queued = queues_of(alloc, kernel, &doings)?;
     Ok(Standing {
         doings,
-        queued,
         verdict: verdict_in(kernel),
     })
 }

@@ -27,10 +27,9 @@ pub struct Teller {
     clients: Clients,
     /// How many events the clients are of.
     taken: usize,
-    calls: Queues,
+    queues: Queues,
     circling: Circles,
     whys: Whys,
-    queues: Changing,
     nests: Changing,
     circles: Changing,
     verdict: Changing,
@@ -50,12 +49,13 @@ pub struct Told {
     pub sentences: Sentences,
 }
 
-/// What a line was answered, and what was printed after it.
+/// What a line was answered, what was printed after it, and what stood in queues before it and after each event.
 #[derive(Clone, Copy)]
 pub struct Said<'a> {
     pub line: &'a Line,
     pub answer: Answer,
     pub printed: &'a [u8],
+    pub queued: &'a [Vec<u32>],
 }
 
 impl Teller {
@@ -65,10 +65,9 @@ impl Teller {
             rows: Rows::new(alloc)?,
             clients: Clients::new(alloc)?,
             taken: 0,
-            calls: Queues::new(alloc),
+            queues: Queues::new(alloc),
             circling: Circles::new(alloc),
             whys: Whys::new(alloc),
-            queues: Changing::new(alloc),
             nests: Changing::new(alloc),
             circles: Changing::new(alloc),
             verdict: Changing::new(alloc),
@@ -78,8 +77,20 @@ impl Teller {
         })
     }
 
-    /// Tells what stands in a kernel now.
-    pub fn tell(
+    /// Tells what stands in a kernel whose journal is empty.
+    pub fn begin(
+        &mut self,
+        kernel: &Kernel,
+        names: &Names,
+        standing: &Standing,
+    ) -> Result<(), AllocError> {
+        let scene = Scene::of(kernel, names);
+        self.queues.tell(&mut self.rows.out, scene, &[])?;
+        self.tell(kernel, names, standing)
+    }
+
+    // Tells what stands in a kernel now, but for its queues.
+    fn tell(
         &mut self,
         kernel: &Kernel,
         names: &Names,
@@ -92,7 +103,6 @@ impl Teller {
         let change = Change {
             runs: self.whys.is_other_run(standing),
             lives: change_lives(newer),
-            queues: self.calls.take(scene, standing)? || self.queues.is_untold(),
         };
         let end = End { scene };
         self.put_standing(&end, standing, change)?;
@@ -110,8 +120,7 @@ impl Teller {
         standing: &Standing,
     ) -> Result<(), AllocError> {
         let scene = Scene::of(kernel, names);
-        self.rows
-            .write_answer(scene, said.line.line, said.answer, said.printed)?;
+        self.rows.write_answer(scene, said, &mut self.queues)?;
         let Answer::Refused(cause) = said.answer else {
             return self.tell(kernel, names, standing);
         };
@@ -156,14 +165,10 @@ impl Teller {
             change,
         };
         self.whys.tell(out, &whys)?;
-        if change.queues {
-            self.calls.write(self.queues.anew(), end.scene)?;
-            self.queues.put(out, ",\"queues\":")?;
-        }
         write_nests(self.nests.anew(), end.scene, standing)?;
         self.nests.put(out, ",\"nests\":")?;
         self.circling
-            .write(self.circles.anew(), end, standing, &self.calls)?;
+            .write(self.circles.anew(), end, standing, &self.queues)?;
         self.circles.put(out, ",\"circles\":")
     }
 

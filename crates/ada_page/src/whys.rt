@@ -37,8 +37,6 @@ pub struct Change {
     pub runs: bool,
     /// Whether a task was made, or came up, or came to its end.
     pub lives: bool,
-    /// Whether other calls stand in queues.
-    pub queues: bool,
 }
 
 /// On what it depends why tasks don't go on.

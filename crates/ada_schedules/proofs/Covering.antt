@@ -16,7 +16,7 @@ use Rattle.ada_standing.proofs.chained.Chain.{stand_ins_chain}
 use Rattle.ada_standing.proofs.asked.Refusing.{refused_alike}
 use Rattle.ada_standing.proofs.led.Leading.{leads_alike}
 use Rattle.ada_schedules.specs.Schedules.{Program, State, Acts, Comes, Reaches, beginning}
-use Rattle.ada_schedules.specs.Closed.{asked_in, went_on, was_refused, StandsFor, SpeaksInNames, Covers, IsClosed}
+use Rattle.ada_schedules.specs.Closed.{asked_in, went_on, was_refused, left_alone, went_alone, StandsFor, SpeaksInNames, Covers, IsClosed}
 use Rattle.ada_schedules.specs.Stuck.{IsStuck}
 use Rattle.ada_schedules.specs.Laws.{program_of, Passing, PassingBoth, ClosedSetsCoverWhatFollows, ClosedSetsCoverAll, NoScheduleGetsStuck}
 use Rattle.ada_schedules.proofs.Once.{came, comes_once}
@@ -34,6 +34,7 @@ come_lawful program choices state (Comes.one_more {choices = before} {from} {to}
     on here _ (Acts.accepted request journal asks accepted leads) (lawful, settled) =
         (after-unlimited here.journal request journal lawful settled accepted leads, leads.settled)
     on here _ (Acts.refused request cause asks refused) known = known
+    on here _ (Acts.alone rest asks leaves) known = known
 
 -- a schedule came to the state, which is covered, lawful and settled
 pub record IsCovered (program : Program) (Same : Renaming → program.Rest → program.Rest → Type 0) (Within : State program.Rest → Type 0)
@@ -95,10 +96,11 @@ module _ (program : Program) (Same : Renaming → program.Rest → program.Rest 
       let led = leads_alike state.journal there.journal here.names request journal on.journal here.stands known.lawful also known.settled kept
       accepted accepted_too leads on.after in
       let lawful_after = after-unlimited state.journal request journal known.lawful known.settled accepted leads in
+      let lawful_there = after-unlimited there.journal copy on.journal also (closed.settled there here.within) accepted_too on.after in
       record {
         reached = let (choices, comes) = known.reached in (choice ∷ choices, Comes.one_more choice comes (Acts.accepted request journal asks accepted leads));
         covered = cover_on (went_on program state choice journal) (went_on program there choice on.journal) led.after led.stands lawful_after
-            (speaks.after state there here.names choice request journal on.journal for asks leads on.after led) on.covered;
+            (speaks.after state there here.names choice request journal on.journal for asks leads on.after lawful_after lawful_there led) on.covered;
         lawful = lawful_after;
         settled = leads.settled;
       }
@@ -121,10 +123,27 @@ module _ (program : Program) (Same : Renaming → program.Rest → program.Rest 
         settled = known.settled;
       }
 
+  -- what a choice leaves that asks for nothing is covered again
+  alone_on : (state : State program.Rest) (choice : program.Choice) (rest : program.Rest) → IsCovered program Same Within state
+      → asked_in program state choice ≡ None → left_alone program state choice ≡ Some rest
+      → IsCovered program Same Within (went_alone program state rest)
+  alone_on state choice rest known asks leaves =
+      let here = known.covered in
+      let there = here.by in
+      let goes = speaks.alone state there here.names choice rest (stands_for state known) asks leaves in
+      record {
+        reached = let (choices, comes) = known.reached in (choice ∷ choices, Comes.one_more choice comes (Acts.alone rest asks leaves));
+        covered = cover_on (went_alone program state rest) (went_alone program there goes.left) here.names here.stands known.lawful goes.same
+            (closed.alone there choice goes.left here.within goes.asks goes.leaves);
+        lawful = known.lawful;
+        settled = known.settled;
+      }
+
   acts_on : (choice : program.Choice) (from to : State program.Rest) → IsCovered program Same Within from → Acts program choice from to
       → IsCovered program Same Within to
   acts_on choice from to known (Acts.accepted request journal asks accepted leads) = accepted_on from choice request journal known asks accepted leads
   acts_on choice from to known (Acts.refused request cause asks refused) = refused_on from choice request cause known asks refused
+  acts_on choice from to known (Acts.alone rest asks leaves) = alone_on from choice rest known asks leaves
 
   -- whatever follows a covered state is covered
   pub follows_covered : (choices : List program.Choice) (from : State program.Rest) → Comes program choices from → Covers program Same Within from
@@ -163,14 +182,14 @@ module _ (program : Program) (Same : Renaming → program.Rest → program.Rest 
       none known.covered.by known.covered.within (stuck_within state known stuck)
 
 pub closed_sets_cover_what_follows : {Rest Choice : Type 0} → ClosedSetsCoverWhatFollows Rest Choice
-closed_sets_cover_what_follows {Rest} {Choice} start asks after refused same within speaks closed choices more from to comes covers also =
-    (follows_covered (program_of Rest Choice start asks after refused) (PassingBoth same) (Passing within) speaks closed choices from comes covers more
+closed_sets_cover_what_follows {Rest} {Choice} start asks after refused alone same within speaks closed choices more from to comes covers also =
+    (follows_covered (program_of Rest Choice start asks after refused alone) (PassingBoth same) (Passing within) speaks closed choices from comes covers more
     to also).covered
 
 pub closed_sets_cover_all : {Rest Choice : Type 0} → ClosedSetsCoverAll Rest Choice
-closed_sets_cover_all {Rest} {Choice} start asks after refused same within speaks closed begun =
-    all_covered (program_of Rest Choice start asks after refused) (PassingBoth same) (Passing within) speaks closed begun
+closed_sets_cover_all {Rest} {Choice} start asks after refused alone same within speaks closed begun =
+    all_covered (program_of Rest Choice start asks after refused alone) (PassingBoth same) (Passing within) speaks closed begun
 
 pub no_schedule_gets_stuck : {Rest Choice : Type 0} → NoScheduleGetsStuck Rest Choice
-no_schedule_gets_stuck {Rest} {Choice} start asks after refused same within speaks closed begun none =
-    none_stuck (program_of Rest Choice start asks after refused) (PassingBoth same) (Passing within) speaks closed begun none
+no_schedule_gets_stuck {Rest} {Choice} start asks after refused alone same within speaks closed begun none =
+    none_stuck (program_of Rest Choice start asks after refused alone) (PassingBoth same) (Passing within) speaks closed begun none

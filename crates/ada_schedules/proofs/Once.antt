@@ -6,9 +6,9 @@ use Rattle.ada_events.specs.Lawful.{After}
 use Rattle.ada_laws.specs.Unlimited.{refusal_but_limits}
 use Rattle.ada_laws.proofs.asking.RequestLaws.{leads_to_one_journal}
 use Rattle.ada_schedules.specs.Schedules.{Program, State, Acts, Comes, beginning}
-use Rattle.ada_schedules.specs.Closed.{went_on, was_refused}
+use Rattle.ada_schedules.specs.Closed.{went_on, was_refused, went_alone}
 
--- a choice leads to one state: it asks for one request, which is accepted or refused
+-- a choice leads to one state: it asks for one request, which is accepted or refused, or for none
 pub acts_once : (program : Program) (choice : program.Choice) (from a b : State program.Rest) → Acts program choice from a → Acts program choice from b
     → a ≡ b
 acts_once program choice from _ _ (Acts.accepted request journal asks accepted after) (Acts.accepted other next too also leads) =
@@ -26,6 +26,17 @@ acts_once program choice from _ _ (Acts.refused request cause asks refused) (Act
     let same : other ≡ request = same_Some other request (sym too ∙ asks) in
     let one : cause ≡ reason = same_Some cause reason (sym refused ∙ sym (ap (refusal_but_limits from.journal) same) ∙ also) in
     ap (was_refused program from choice) one
+acts_once program choice from _ _ (Acts.alone rest none leaves) (Acts.alone other too also) =
+    let one : rest ≡ other = same_Some rest other (sym leaves ∙ also) in
+    ap (went_alone program from) one
+acts_once program choice from _ _ (Acts.alone rest none leaves) (Acts.accepted request journal asks accepted after) =
+    absurd (none-some request (sym none ∙ asks))
+acts_once program choice from _ _ (Acts.alone rest none leaves) (Acts.refused request cause asks refused) =
+    absurd (none-some request (sym none ∙ asks))
+acts_once program choice from _ _ (Acts.accepted request journal asks accepted after) (Acts.alone rest none leaves) =
+    absurd (none-some request (sym none ∙ asks))
+acts_once program choice from _ _ (Acts.refused request cause asks refused) (Acts.alone rest none leaves) =
+    absurd (none-some request (sym none ∙ asks))
 
 -- the step before the last one of a schedule
 abbrev pub Came : (program : Program) → List program.Choice → State program.Rest → Type 0

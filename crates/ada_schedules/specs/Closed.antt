@@ -23,6 +23,14 @@ went_on program state choice journal = record { journal = journal; rest = progra
 abbrev pub was_refused : (program : Program) → State program.Rest → program.Choice → Refusal → State program.Rest
 was_refused program state choice cause = record { journal = state.journal; rest = program.refused state.rest choice cause }
 
+-- what is left to do after a choice that asks for nothing
+abbrev pub left_alone : (program : Program) → State program.Rest → program.Choice → Option program.Rest
+left_alone program state choice = program.alone state.journal state.rest choice
+
+-- where that leads
+abbrev pub went_alone : (program : Program) → State program.Rest → program.Rest → State program.Rest
+went_alone program state rest = record { journal = state.journal; rest = rest }
+
 -- here `Same` says when what is left to do is the same but for names
 
 -- the second state stands in for the first one, to which a schedule of the program came
@@ -33,6 +41,14 @@ pub record StandsFor (program : Program) (Same : Renaming → program.Rest → p
   pub lawful_too : IsLawful second.journal
   pub stands : StandsIn first.journal second.journal names
   pub same : Same names first.rest second.rest
+
+-- a choice that asks for nothing does so in another state, and leaves the same to do
+pub record GoesAlone (program : Program) (Same : Renaming → program.Rest → program.Rest → Type 0) (names : Renaming) (rest : program.Rest)
+    (state : State program.Rest) (choice : program.Choice) : Type 0 where
+  pub left : program.Rest
+  pub asks : asked_in program state choice ≡ None
+  pub leaves : left_alone program state choice ≡ Some left
+  pub same : Same names rest left
 
 -- the program names tasks and blocks by their names alone: if a second state stands in for a first one, each choice asks
 -- for the same there, under its names, and names only what has a name; and what is left to do afterwards is the same
@@ -47,10 +63,13 @@ pub record SpeaksInNames (program : Program) (Same : Renaming → program.Rest �
   pub after : (first second : State program.Rest) (names : Renaming) (choice : program.Choice) (request : Request) (journal other : List Event)
       → StandsFor program Same first second names → asked_in program first choice ≡ Some request
       → After first.journal request journal → After second.journal (renamed_request names request) other
-      → (led : LedAlike first.journal second.journal names journal other)
+      → IsLawfulUnlimited journal → IsLawfulUnlimited other → (led : LedAlike first.journal second.journal names journal other)
       → Same led.after (went_on program first choice journal).rest (went_on program second choice other).rest
   pub refused : (names : Renaming) (rest other : program.Rest) (choice : program.Choice) (cause : Refusal) → Same names rest other
       → Same names (program.refused rest choice cause) (program.refused other choice cause)
+  pub alone : (first second : State program.Rest) (names : Renaming) (choice : program.Choice) (rest : program.Rest)
+      → StandsFor program Same first second names → asked_in program first choice ≡ None → left_alone program first choice ≡ Some rest
+      → GoesAlone program Same names rest second choice
   pub chained : (names more : Renaming) (first second third : program.Rest) → Same names first second → Same more second third
       → Same (chained names more) first third
 
@@ -71,7 +90,7 @@ pub record GoesOn (program : Program) (Same : Renaming → program.Rest → prog
   pub covered : Covers program Same Within (went_on program state choice journal)
 
 -- a set of lawful, settled states. Whatever a choice of one of them asks for leads to what one of them covers, also if it
--- is refused
+-- is refused, and so does a choice that asks for nothing
 pub record IsClosed (program : Program) (Same : Renaming → program.Rest → program.Rest → Type 0) (Within : State program.Rest → Type 0) : Type 0 where
   pub lawful : (state : State program.Rest) → Within state → IsLawful state.journal
   pub settled : (state : State program.Rest) → Within state → IsSettled state.journal
@@ -81,3 +100,6 @@ pub record IsClosed (program : Program) (Same : Renaming → program.Rest → pr
   pub refused : (state : State program.Rest) (choice : program.Choice) (request : Request) (cause : Refusal) → Within state
       → asked_in program state choice ≡ Some request → refusal_but_limits state.journal request ≡ Some cause
       → Covers program Same Within (was_refused program state choice cause)
+  pub alone : (state : State program.Rest) (choice : program.Choice) (rest : program.Rest) → Within state
+      → asked_in program state choice ≡ None → left_alone program state choice ≡ Some rest
+      → Covers program Same Within (went_alone program state rest)

@@ -7,8 +7,8 @@ use Rattle.ada_events.specs.Lawful.{After}
 use Rattle.ada_laws.specs.Unlimited.{refusal_but_limits}
 
 -- a program: what its tasks have still to do, all of them together; which request a choice asks for, or none where that
--- choice isn't there; and what is left to do after a choice, by the journal that its request led to, or by the cause for
--- which it was refused
+-- choice isn't there or asks for none; what is left to do after a choice, by the journal that its request led to, or by
+-- the cause for which it was refused; and what is left after a choice that asks for nothing, or none where it isn't there
 pub record Program : Type 1 where
   pub Rest : Type 0
   pub Choice : Type 0
@@ -16,6 +16,7 @@ pub record Program : Type 1 where
   pub asks : List Event → Rest → Choice → Option Request
   pub after : List Event → Rest → Choice → List Event → Rest
   pub refused : Rest → Choice → Refusal → Rest
+  pub alone : List Event → Rest → Choice → Option Rest
 
 -- where a schedule has come to
 pub record State (Rest : Type 0) : Type 0 where
@@ -23,7 +24,8 @@ pub record State (Rest : Type 0) : Type 0 where
   pub rest : Rest
 
 -- one step of a schedule: the request of a choice is accepted, and leads to the next journal; or it is refused, for a
--- cause that is no limit of tasks, slots or events, and changes what is left to do alone
+-- cause that is no limit of tasks, slots or events, and changes what is left to do alone; or a choice asks for nothing,
+-- and does that, too
 pub data Acts (program : Program) (choice : program.Choice) (from : State program.Rest) : State program.Rest → Type 0 where
   accepted : (request : Request) (journal : List Event) → program.asks from.journal from.rest choice ≡ Some request
       → refusal_but_limits from.journal request ≡ None → After from.journal request journal
@@ -31,6 +33,8 @@ pub data Acts (program : Program) (choice : program.Choice) (from : State progra
   refused : (request : Request) (cause : Refusal) → program.asks from.journal from.rest choice ≡ Some request
       → refusal_but_limits from.journal request ≡ Some cause
       → Acts program choice from (record { journal = from.journal; rest = program.refused from.rest choice cause })
+  alone : (rest : program.Rest) → program.asks from.journal from.rest choice ≡ None
+      → program.alone from.journal from.rest choice ≡ Some rest → Acts program choice from (record { journal = from.journal; rest = rest })
 
 -- where the schedules of a program begin
 abbrev pub beginning : (program : Program) → State program.Rest

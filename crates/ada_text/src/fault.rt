@@ -159,6 +159,78 @@ pub enum Cause {
     /// 5.8.
     #[error("return out of an accept statement isn't in the subset")]
     ReturnOfAccept,
+    /// A use clause without a with clause before it (8.4).
+    #[error("a use clause wants a with clause of its package before it")]
+    UseWithoutWith,
+    /// No declaration of this name is visible (8.3).
+    #[error("this name isn't declared")]
+    NotDeclared,
+    /// The declaration of this name comes later, or isn't over (8.3).
+    #[error("this name is used before it is declared")]
+    UsedBeforeDeclaration,
+    /// A name of TEXT_IO without the clauses that make it visible (8.4, 14.3).
+    #[error("this name wants `with TEXT_IO; use TEXT_IO;` before the procedure")]
+    TextIoNotNamed,
+    /// Two declarations of one name in one declarative region (8.3).
+    #[error("this name is declared twice in one declarative region")]
+    DeclaredTwice,
+    /// Two subprograms or entries of one name in one declarative region (6.6, 9.5).
+    #[error("overloading of subprograms and of entries isn't in the subset")]
+    Overloading,
+    /// A name after a point that is declared in no enclosing unit, block or loop of the prefix (4.1.3).
+    #[error("the prefix has no such name that is visible here")]
+    NoSuchSelector,
+    /// A name after that of a task and a point, or in an accept statement (9.5).
+    #[error("the task has no entry of this name")]
+    NoSuchEntry,
+    /// 14.3.
+    #[error("of TEXT_IO only PUT, PUT_LINE and NEW_LINE are in the subset")]
+    OfTextIo,
+    /// A body of a task without its declaration in the same declarative part (9.1).
+    #[error("the task of this body isn't declared before it in the same declarative part")]
+    BodyWithoutDeclaration,
+    /// A task or a subprogram without its body in the same declarative part (3.9).
+    #[error("the body of this doesn't come in the same declarative part")]
+    NoBody,
+    /// 3.9.
+    #[error("this has a body already")]
+    SecondBody,
+    /// A body that isn't headed as its subprogram is declared (6.3.1).
+    #[error("parameters and result aren't those of the subprogram's declaration")]
+    OtherSpecification,
+    /// An accept statement with other parameters than its entry (9.5).
+    #[error("the parameters aren't those of the entry")]
+    OtherParameters,
+    /// 9.5.
+    #[error("an entry of a family is accepted with its index, and a single entry without")]
+    FamilyIndex,
+    /// 9.5.
+    #[error("an accept statement stands in the body of its task, and in no inner body")]
+    AcceptOutsideOfTask,
+    /// 9.5.
+    #[error("an accept statement doesn't stand within another one of the same entry")]
+    AcceptWithinAccept,
+    /// 5.7.
+    #[error("an exit statement stands in a loop, and leaves no body and no accept statement")]
+    ExitOutsideOfLoop,
+    /// 5.7.
+    #[error("no loop of this name encloses the exit statement")]
+    NoSuchLoop,
+    /// 5.8.
+    #[error("a return statement stands in the body of a subprogram")]
+    ReturnOutsideOfSubprogram,
+    /// 11.3.
+    #[error("a raise statement without a name stands in an exception handler")]
+    RaiseOutsideOfHandler,
+    /// A raise statement or a handler of something else (11.2, 11.3).
+    #[error("this isn't an exception")]
+    NoException,
+    /// 11.2.
+    #[error("this exception has a handler already")]
+    HandledTwice,
+    /// 11.2.
+    #[error("others stands alone, in the last handler")]
+    OthersNotLast,
     /// A node that names no node, or stands outside of the text. No text is known that leads to it.
     #[error("the tree isn't whole")]
     BrokenTree,

@@ -16,9 +16,10 @@ mod reading;
 pub mod tree;
 mod word;
 
-pub use fault::{Cause, Fault, Wanted};
+pub use fault::{Cause, Fault, Trouble, Wanted};
 pub use kind::Kind;
+pub use lexical::{is_same_name, upper};
 pub use place::Place;
-pub use reading::read;
+pub use reading::{fault_at, read};
 pub use tree::Tree;
 pub use word::Word;

@@ -12,7 +12,7 @@ use crate::tree::Tree;
 use std::alloc::Global;
 
 /// The fault of which this is said, at the place of its byte.
-fn fault_at(text: &[u8], trouble: Trouble) -> Fault
+pub fn fault_at(text: &[u8], trouble: Trouble) -> Fault
     ensures { IsPlaceIn text.now result.place }
 {
     let at = (trouble.at as usize).min(text.len()).min(LONGEST_TEXT);

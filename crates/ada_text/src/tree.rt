@@ -63,9 +63,17 @@ impl Nodes {
     }
 }
 
-/// A text as a tree: the name of its main program, its body, and all nodes.
+/// Which context clauses stand before the main program (10.1.1): both are of TEXT_IO.
+#[derive(Clone, Copy, PartialEq, Eq)]
+pub struct ContextClause {
+    pub has_with: bool,
+    pub has_use: bool,
+}
+
+/// A text as a tree: its context clause, the name of its main program, its body, and all nodes.
 #[derive(Drop)]
 pub struct Tree {
+    pub context: ContextClause,
     pub name: Identifier,
     pub body: BodyId,
     pub nodes: Nodes,

@@ -29,7 +29,7 @@ fn joined<R: AllocGlobal>(rt: &R, parts: [&[u8]; 3]) -> Result<Vec<u8>, Fail> {
 }
 
 /// A procedure with these declarations in its second line.
-fn with_declarations<R: AllocGlobal>(rt: &R, declarations: &[u8]) -> Result<Vec<u8>, Fail> {
+pub fn with_declarations<R: AllocGlobal>(rt: &R, declarations: &[u8]) -> Result<Vec<u8>, Fail> {
     joined(
         rt,
         [b"procedure P is\n", declarations, b"\nbegin null; end P;\n"],
@@ -37,7 +37,7 @@ fn with_declarations<R: AllocGlobal>(rt: &R, declarations: &[u8]) -> Result<Vec<
 }
 
 /// A procedure with these statements in its second line.
-fn with_statements<R: AllocGlobal>(rt: &R, statements: &[u8]) -> Result<Vec<u8>, Fail> {
+pub fn with_statements<R: AllocGlobal>(rt: &R, statements: &[u8]) -> Result<Vec<u8>, Fail> {
     joined(rt, [b"procedure P is begin\n", statements, b"\nend P;\n"])
 }
 

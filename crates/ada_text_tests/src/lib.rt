@@ -13,6 +13,12 @@ mod faults;
 #[cfg(test)]
 mod limits;
 #[cfg(test)]
+mod misnamed;
+#[cfg(test)]
+mod names;
+#[cfg(test)]
+mod resolving;
+#[cfg(test)]
 mod shapes;
 #[cfg(test)]
 mod statements;
@@ -20,5 +26,7 @@ mod statements;
 mod tour;
 #[cfg(test)]
 mod trees;
+#[cfg(test)]
+mod visibility;
 #[cfg(test)]
 mod words;

@@ -207,12 +207,12 @@ begin
 end FAULTS;
 ";
 
+/// The programs.
+pub const PROGRAMS: [&[u8]; 6] = [RENDEZVOUS, DOORBELL, BAKERY, WATCHED, SERVER_TREE, FAULTS];
+
 #[test]
 fn reads_the_programs_of_the_tour(rt: HostRuntime) {
-    assert_read(&rt, RENDEZVOUS);
-    assert_read(&rt, DOORBELL);
-    assert_read(&rt, BAKERY);
-    assert_read(&rt, WATCHED);
-    assert_read(&rt, SERVER_TREE);
-    assert_read(&rt, FAULTS);
+    for text in PROGRAMS {
+        assert_read(&rt, text);
+    }
 }

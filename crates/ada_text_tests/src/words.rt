@@ -70,6 +70,12 @@ fn counts_lines_and_columns(rt: HostRuntime) {
     );
     assert_refused(
         &rt,
+        b"use TEXT_IO;",
+        Place { line: 1, column: 1 },
+        Cause::UseWithoutWith,
+    );
+    assert_refused(
+        &rt,
         b"package P is",
         Place { line: 1, column: 1 },
         Cause::Packages,

@@ -2,7 +2,7 @@
 use Rattle.std.proofs.Common.{◌≡◌, ℕ, suc, ◌+◌, ◌<◌, ◌≤◌, true, cond, ◌&&◌, Option, Some, None, List, length, slice_get, refl, sym, ap, subst, ◌∙◌, arith}
 use Rattle.std.specs.Option.{option_map}
 use Rattle.std.proofs.lemmas.Bool.{false≢true, ltb-true}
-use Rattle.std.proofs.lemmas.Option.{same_Some}
+use Rattle.std.proofs.lemmas.Option.{none-some, same_Some}
 use Rattle.ada_events.specs.declared.event.Event.{Event}
 use Rattle.ada_events.specs.declared.request.Request.{Request}
 use Rattle.ada_events.specs.declared.request.Request.TheVariants.{Tick}
@@ -27,6 +27,7 @@ use Rattle.ada_script.specs.declared.script.Line.{Line}
 use Rattle.ada_schedules.specs.Schedules.{State}
 use Rattle.ada_schedules.specs.Closed.{asked_in, went_on, StandsFor, SpeaksInNames}
 use Rattle.ada_schedules.proofs.Stuck.{few_tasks, tick_kept, tick_renamed}
+use Rattle.ada_schedules.proofs.Adding.{few_more, one_made, longer_after}
 use Rattle.ada_explore.specs.declared.turns.Turn.{Turn}
 use Rattle.ada_explore.specs.declared.turns.Turn.TheVariants.{Line as Say, Time as Pass}
 use Rattle.ada_explore.specs.declared.turns.Freedom.{Freedom}
@@ -39,7 +40,7 @@ use Rattle.ada_explore.proofs.naming.Chaining.{same_along, same_less}
 use Rattle.ada_explore.proofs.naming.Askers.{AskAlike, AreApart, request_kept}
 use Rattle.ada_explore.proofs.naming.Picking.{picked_renamed, picked_kept}
 use Rattle.ada_explore.proofs.naming.Coming.{Asked, asked_parts, Passed, passed_parts, coming_within, are_apart, runs_alike, silent_alike, may_come_alike}
-use Rattle.ada_explore.proofs.naming.Counting.{few_more, one_made, longer_after, reaches_few}
+use Rattle.ada_explore.proofs.naming.Counting.{reaches_few}
 use Rattle.ada_explore.proofs.naming.Keeping.{creates, KnowsMore, same_on, same_passed}
 
 -- ---- what more names are known once both journals took a line
@@ -234,8 +235,9 @@ pub scripts_speak : (freedom : Freedom) (script : List Line) → length script �
 scripts_speak freedom script short = record {
   asks = λ first second names turn request for asks. asks_too freedom script short first second names for turn request asks;
   kept = λ first second names turn request for asks. kept_names freedom script short first second names for turn request asks;
-  after = λ first second names turn request journal other for asks after copied led.
+  after = λ first second names turn request journal other for asks after copied lawful lawful_too led.
       same_after freedom script short first second names for turn request asks journal other after led;
   refused = λ names one other turn cause same. same_refused script names turn one other same;
+  alone = λ first second names turn left for asks leaves. absurd (none-some left leaves);
   chained = λ names more one other third same also. same_along names more script one other third same also;
 }

@@ -1,15 +1,20 @@
--- The calls for which tasks don't go on that stand in queues.
-use Rattle.std.specs.Prelude.{ℕ, Option, Some, None, List}
-use Rattle.std.specs.List.{filter_map}
-use Rattle.ada_waiting.specs.declared.reasons.Reason.{Reason}
-use Rattle.ada_waiting.specs.declared.reasons.Reason.TheVariants.{Queued}
-use Rattle.ada_page.specs.declared.standing.Doing.{Doing}
+-- Which calls stay in their queues when an event comes, and which one comes.
+use Rattle.std.specs.Prelude.{ℕ, suc, Bool, true, not, ◌==◌, List, [], ◌∷◌, length}
+use Rattle.ada_events.specs.declared.event.Event.{Event}
+use Rattle.ada_events.specs.declared.event.Event.TheVariants.{Called, Met, Ended, Failed, Cancelled, Halted}
+use Rattle.ada_events.specs.Search.{is_number}
+use Rattle.ada_tables.specs.Standing.{caller_of}
 
--- the position of the call that stands in a queue, if a task doesn't go on for that
-unfoldable pub queued_by : Option Reason → Option ℕ
-queued_by (Some (Queued call)) = Some call
-queued_by _ = None
+-- the call at a position stays in its queue when the event comes: it isn't met or released, nor is its caller halted
+unfoldable pub stays : List Event → Event → ℕ → Bool
+stays before (Met call wait) p = not (p == call)
+stays before (Ended by call raised) p = not (p == call)
+stays before (Failed call) p = not (p == call)
+stays before (Cancelled call) p = not (p == call)
+stays before (Halted task) p = not (is_number task.0 (caller_of before p))
+stays before _ p = true
 
--- the positions of all such calls, task by task
-abbrev pub queued_in : List Doing → List ℕ
-queued_in doings = filter_map (λ (doing : Doing). queued_by doing.reason) doings
+-- the position of the event, if it is a call
+unfoldable pub newest_call : Event → List Event → List ℕ
+newest_call (Called by callee entry patience due) before = suc (length before) ∷ []
+newest_call _ before = []

@@ -7,8 +7,8 @@ pub static BEFORE_TITLE: &str = "\
 <meta charset=\"utf-8\">
 <meta name=\"viewport\" content=\"width=device-width, initial-scale=1\">
 <meta http-equiv=\"Content-Security-Policy\" content=\"default-src 'none'; style-src 'unsafe-inl\
-ine'; base-uri 'none'; form-action 'none'; script-src 'sha256-B6E2EfnBZ3+7JU1Hb/959C/Jm6ddwEaMA7\
-/V4S1VLEg='\">
+ine'; base-uri 'none'; form-action 'none'; script-src 'sha256-zQxD0+YQlejQlh5uJFZ1e5KG8Mgr5i3m8A\
+4t5RlSgWc='\">
 <title>";
 
 pub static BEFORE_STYLE: &str = "\

@@ -121,6 +121,6 @@ function load(played) {
   rows.forEach((row, i) => noteRow(row, i, open));
 }
 
-// Whether a row is the last one of its line: only there reasons and queues are told.
+// Whether a row is the last one of its line: only there reasons are told.
 const isSettled = row => lastOf[rows[row].line] === row;
 ";

@@ -6,8 +6,8 @@ use super::{DEEPEST, Parser};
 use crate::fault::{Cause, Trouble, Wanted};
 use crate::kind::Kind;
 use crate::lexical::is_same_name;
-use crate::tree::Tree;
 use crate::tree::expression::Identifier;
+use crate::tree::{ContextClause, Tree};
 
 impl<'a> Parser<'a> {
     /// Whether a name is that of the package TEXT_IO (14.3).
@@ -32,19 +32,27 @@ impl<'a> Parser<'a> {
         self.semicolon()
     }
 
-    /// Reads the context clause (10.1.1).
-    fn context_clause(&mut self) -> Result<(), Trouble>
+    /// Reads the context clause (10.1.1). A use clause stands after the with clause of its package.
+    fn context_clause(&mut self) -> Result<ContextClause, Trouble>
         ensures { OnOk result (self.new ≤ self.old) }
     {
+        let mut context = ContextClause {
+            has_with: false,
+            has_use: false,
+        };
         'clauses: loop {
             if self.accept(Kind::With) {
                 self.text_io(Cause::ContextClauses)?;
-            } else if self.accept(Kind::Use) {
+                context.has_with = true;
+            } else if context.has_with && self.accept(Kind::Use) {
                 self.text_io(Cause::UseClauses)?;
+                context.has_use = true;
+            } else if self.kind() == Kind::Use {
+                return Err(self.refused(Cause::UseWithoutWith));
             } else if self.kind() == Kind::Pragma {
                 self.pragma()?;
             } else {
-                return Ok(());
+                return Ok(context);
             }
         }
     }
@@ -66,7 +74,7 @@ impl<'a> Parser<'a> {
 
     /// Reads the whole text.
     pub fn program(mut self) -> Result<Tree, Trouble> {
-        self.context_clause()?;
+        let context = self.context_clause()?;
         let name = self.main_head()?;
         let body = self.body(DEEPEST)?;
         self.optional_name(name)?;
@@ -76,6 +84,7 @@ impl<'a> Parser<'a> {
             return Err(self.unexpected(Wanted::Word(Kind::EndOfText)));
         }
         Ok(Tree {
+            context,
             name,
             body,
             nodes: self.nodes,

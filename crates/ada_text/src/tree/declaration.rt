@@ -5,7 +5,7 @@ use super::statement::BodyId;
 use super::task::Entry;
 
 /// The index of a declaration in its tree.
-#[derive(Clone, Copy, PartialEq, Eq)]
+#[derive(Clone, Copy, Debug, PartialEq, Eq, Hash)]
 pub struct DeclarationId(pub u32);
 
 /// A declaration, and the name that it declares.

@@ -5,11 +5,11 @@ use super::expression::{ExpressionId, Identifier};
 use super::task::{Accept, Select};
 
 /// The index of a statement in its tree.
-#[derive(Clone, Copy, PartialEq, Eq)]
+#[derive(Clone, Copy, Debug, PartialEq, Eq, Hash)]
 pub struct StatementId(pub u32);
 
 /// The index of a body in its tree.
-#[derive(Clone, Copy, PartialEq, Eq)]
+#[derive(Clone, Copy, Debug, PartialEq, Eq)]
 pub struct BodyId(pub u32);
 
 /// A statement, and the index of the byte where it begins.

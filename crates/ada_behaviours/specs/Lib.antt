@@ -1,0 +1,4 @@
+pub mod Behaviours
+pub mod Moves
+pub mod Same
+pub mod Laws

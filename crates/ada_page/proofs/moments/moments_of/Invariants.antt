@@ -1,8 +1,0 @@
-use Rattle.std.proofs.Common.{take}
-use Rattle.ada_replay.specs.Ends.{state}
-use Rattle.ada_page.specs.Shows.{Shows}
-use Rattle.ada_page.proofs.moments.moments_of.Given as goal
-
-abbrev pub invariant-loop-line : goal.invariant-loop-line
-invariant-loop-line l =
-    Shows (take l.line-index l.lines) (state l.initial.kernel l.initial.names) l.answers.items l.text.items l.standings.items (state l.kernel l.names)
