@@ -147,12 +147,12 @@ module _ (old new : List Event) (names : Renaming) (standing : StandsIn old new 
         ∙ ap (λ m. requests.Create (task_no v) m families) (master_named names (frame old u) (frame new v) framed))
         (and_from _ _ kept (master_kept names old (frame old u) (frame new v) framed))
     requested_alike (Activate objects) request is =
-        let (all, are, made) = option_map-some (requests.Activate (task_no u)) (tasks_of tasks objects.items) request is in
+        let (all, are, made) = option_map-some (requests.Activate (task_no u)) (tasks_of tasks objects) request is in
         subst (λ o. AsksAlike names old request (option_map (requests.Activate (task_no v)) o))
-        (sym (tasks_alike names tasks other objects.items all same are))
+        (sym (tasks_alike names tasks other objects all same are))
         (asks_alike names old (requests.Activate (task_no u) all) request (requests.Activate (task_no v) (map (asked_task names) all)) made
         (ap (λ t. requests.Activate t (map (asked_task names) all)) by_name)
-        (and_from _ _ kept (kept_tasks names old tasks other objects.items all same are)))
+        (and_from _ _ kept (kept_tasks names old tasks other objects all same are)))
     requested_alike (Elaborated ok) request is =
         asks_alike names old (requests.Elaborated (task_no u) ok) request (requests.Elaborated (task_no v) ok) (same_Some _ request is)
         (ap (λ t. requests.Elaborated t ok) by_name) (and_from _ _ kept refl)
@@ -182,12 +182,12 @@ module _ (old new : List Event) (names : Renaming) (standing : StandsIn old new 
         asks_alike names old (requests.Complete (task_no u)) request (requests.Complete (task_no v)) (same_Some _ request is)
         (ap requests.Complete by_name) (and_from _ _ kept refl)
     requested_alike (Abort objects) request is =
-        let (all, are, made) = option_map-some (requests.Abort (task_no u)) (tasks_of tasks objects.items) request is in
+        let (all, are, made) = option_map-some (requests.Abort (task_no u)) (tasks_of tasks objects) request is in
         subst (λ o. AsksAlike names old request (option_map (requests.Abort (task_no v)) o))
-        (sym (tasks_alike names tasks other objects.items all same are))
+        (sym (tasks_alike names tasks other objects all same are))
         (asks_alike names old (requests.Abort (task_no u) all) request (requests.Abort (task_no v) (map (asked_task names) all)) made
         (ap (λ t. requests.Abort t (map (asked_task names) all)) by_name)
-        (and_from _ _ kept (kept_tasks names old tasks other objects.items all same are)))
+        (and_from _ _ kept (kept_tasks names old tasks other objects all same are)))
 
     -- and what one wants asks for
     pub asked_alike : (wanted : Want) (request : Request) → asked_for old tasks pick u wanted ≡ Some request

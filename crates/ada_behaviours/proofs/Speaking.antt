@@ -48,7 +48,7 @@ pub record Runs (journal : List Event) (tasks : Tasks) (object task : ℕ) : Typ
   pub is : running_of journal tasks object ≡ Some task
   pub run : runs journal task ≡ true
 
-running_parts : (journal : List Event) (tasks : Tasks) (object task : ℕ) → running_of journal tasks object ≡ Some task
+pub running_parts : (journal : List Event) (tasks : Tasks) (object task : ℕ) → running_of journal tasks object ≡ Some task
     → Runs journal tasks object task
 running_parts journal tasks object task is =
     let (found, at, kept) = option_and_then-some (λ t. cond (runs journal t) (Some t) None) (task_of tasks object) task is in

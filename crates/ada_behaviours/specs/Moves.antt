@@ -64,7 +64,7 @@ may_be_called journal task = has_task journal task && is_callable journal task
 abbrev pub requested : List Event → Tasks → ℕ → ℕ → Action → Option Request
 requested journal tasks task pick Open = Some (request.Open (task_no task))
 requested journal tasks task pick (Create object families) = Some (request.Create (task_no task) (frame journal task) families)
-requested journal tasks task pick (Activate objects) = option_map (request.Activate (task_no task)) (tasks_of tasks objects.items)
+requested journal tasks task pick (Activate objects) = option_map (request.Activate (task_no task)) (tasks_of tasks objects)
 requested journal tasks task pick (Elaborated ok) = Some (request.Elaborated (task_no task) ok)
 requested journal tasks task pick (Call callee entry patience) =
     option_map (λ other. request.Call (task_no task) (task_no other) entry patience) (task_of tasks callee.0)
@@ -73,7 +73,7 @@ requested journal tasks task pick (Delay duration) = Some (request.Delay (task_n
 requested journal tasks task pick (End raised) = Some (request.End (task_no task) raised)
 requested journal tasks task pick Close = Some (request.Close (task_no task))
 requested journal tasks task pick Complete = Some (request.Complete (task_no task))
-requested journal tasks task pick (Abort objects) = option_map (request.Abort (task_no task)) (tasks_of tasks objects.items)
+requested journal tasks task pick (Abort objects) = option_map (request.Abort (task_no task)) (tasks_of tasks objects)
 
 -- the object whose task an action makes
 abbrev pub made_by : Action → Option ℕ
@@ -209,10 +209,8 @@ left_alone behaviour journal rest Pass = None
 abbrev pub first_task : ℕ → Option ℕ
 first_task object = if object == 0 then Some 0 else None
 
-abbrev pub behaving : {State : Type 0} → Behaviour State → Program
+abbrev pub behaving : {State : Type 0} → Behaviour State → Program (Rest State) Move
 behaving {State} behaviour = record {
-  Rest = Rest State;
-  Choice = Move;
   start = record { state = behaviour.start; tasks = map first_task (range_with_len 0 behaviour.objects) };
   asks = asked_by behaviour;
   after = left_after behaviour;

@@ -7,9 +7,11 @@
 
 ghost use Rattle.ada_behaviours.specs.Laws.{BehavioursSpeakInNames};
 
+pub mod behaviour;
 pub mod want;
 
-pub use want::{Action, Move, ObjectNo, Question, Want};
+pub use behaviour::Behaviour;
+pub use want::{Action, Move, ObjectNo, Objects, Question, Want};
 
 /// A behaviour names tasks and blocks by their names alone: in a journal that stands in for another one, each move asks
 /// for the same there, under its names, and what is left to do afterwards is the same again.

@@ -1,10 +1,14 @@
 //! What a task object wants next.
 
-use ada_events::{Choices, Entry, Families, Patience, Tail};
+use ada_events::limits::MOST_TASKS;
+use ada_events::{Bounded, Choices, Entry, Families, Patience, Tail};
 
 /// The number of a task object (9.2) of a program: the main program is 0.
-#[derive(Clone, Copy, Debug, PartialEq, Eq)]
+#[derive(Clone, Copy, Debug, Default, PartialEq, Eq)]
 pub struct ObjectNo(pub u16);
+
+/// The task objects that an activation or an abort names, at most 256.
+pub type Objects = Bounded<ObjectNo, MOST_TASKS>;
 
 /// A request of a task object to the kernel. Other task objects go by their numbers.
 #[derive(Debug, Drop, PartialEq, Eq)]
@@ -18,7 +22,7 @@ pub enum Action {
     },
     /// Starts the activation of the tasks of objects (9.3).
     Activate {
-        objects: Vec<ObjectNo>,
+        objects: Objects,
     },
     /// Ends its own activation, by an exception if `ok` is false (9.3).
     Elaborated {
@@ -49,7 +53,7 @@ pub enum Action {
     Complete,
     /// Aborts the tasks of objects (9.10).
     Abort {
-        objects: Vec<ObjectNo>,
+        objects: Objects,
     },
 }
 

@@ -14,12 +14,12 @@ use Rattle.ada_events.specs.Forced.{task_no}
 use Rattle.ada_events.specs.Steps.{IsAccepted, IsRefused}
 use Rattle.ada_laws.specs.Unlimited.{is_limit, limit_refusal, refusal_but_limits}
 use Rattle.ada_laws.proofs.asking.Limitless.{accepted_without_limits, limits_refuse_at_last}
-use Rattle.ada_statements.specs.Scope.{Scope}
 use Rattle.ada_script.specs.declared.script.Line.{Line}
 use Rattle.ada_schedules.specs.Schedules.{Acts}
 use Rattle.ada_explore.specs.declared.turns.Turn.{Turn}
 use Rattle.ada_explore.specs.declared.turns.Freedom.{Freedom}
-use Rattle.ada_explore.specs.Scripts.{scripted, rest, at as state, request_in, may_take, left_after, names_after}
+use Rattle.ada_search.specs.Findings.{at as state}
+use Rattle.ada_explore.specs.Scripts.{Rest, scripted, rest, request_in, may_take, left_after, names_after}
 
 -- of limits alone the first cause is a limit
 first_limit : (cs : List Cause) (cause : Refusal) → first_cause (filter (λ (c : Cause). is_limit c.name) cs) ≡ Some cause → is_limit cause ≡ true
@@ -50,34 +50,32 @@ no_limit journal request cause other refused =
     by (Some c) is same = is ∙ same
 
 -- what a turn asks for that may be taken
-pub may_ask : (freedom : Freedom) (script : List Line) (journal : List Event) (left : List ℕ) (names : Scope) (turn : Turn) (request : Request)
-    → may_take freedom script journal (rest left names) turn ≡ true → request_in script journal (rest left names) turn ≡ Some request
-    → (scripted freedom script).asks journal (rest left names) turn ≡ Some request
-may_ask freedom script journal left names turn request may is =
-    ap (λ b. cond b (request_in script journal (rest left names) turn) None) may ∙ is
+pub may_ask : (freedom : Freedom) (script : List Line) (journal : List Event) (left : Rest) (turn : Turn) (request : Request)
+    → may_take freedom script journal left turn ≡ true → request_in script journal left turn ≡ Some request
+    → (scripted freedom script).asks journal left turn ≡ Some request
+may_ask freedom script journal left turn request may is = ap (λ b. cond b (request_in script journal left turn) None) may ∙ is
 
 -- a turn whose request a kernel accepted is a step
-pub accepts_line : (freedom : Freedom) (script : List Line) (journal new : List Event) (left left_on : List ℕ) (names names_on : Scope) (turn : Turn)
-    (position : ℕ) (made : TaskNo) (request : Request) → (scripted freedom script).asks journal (rest left names) turn ≡ Some request
-    → IsAccepted journal request position new → made ≡ task_no (task_count journal) → left_on ≡ left_after turn left
-    → names_on ≡ names_after script names turn position made
-    → Acts (scripted freedom script) turn (state journal left names) (state new left_on names_on)
-accepts_line freedom script journal new left left_on names names_on turn position made request asks accepted is_made is_left is_names =
-    let same : state new left_on names_on
-    ≡ record { journal = new; rest = (scripted freedom script).after journal (rest left names) turn new }
-    = rw (is_left, is_names, accepted.position, is_made) refl in
-    subst (λ to. Acts (scripted freedom script) turn (state journal left names) to) (sym same)
+pub accepts_line : (freedom : Freedom) (script : List Line) (journal new : List Event) (left taken left_on : Rest) (turn : Turn) (position : ℕ) (made : TaskNo)
+    (request : Request) → (scripted freedom script).asks journal left turn ≡ Some request → IsAccepted journal request position new
+    → made ≡ task_no (task_count journal) → taken ≡ rest (left_after turn left.left) left.names
+    → left_on ≡ rest taken.left (names_after script taken.names turn position made)
+    → Acts (scripted freedom script) turn (state journal left) (state new left_on)
+accepts_line freedom script journal new left taken left_on turn position made request asks accepted is_made is_taken is_left =
+    let same : state new left_on ≡ record { journal = new; rest = (scripted freedom script).after journal left turn new }
+    = rw (is_left, is_taken, accepted.position, is_made) refl in
+    subst (λ to. Acts (scripted freedom script) turn (state journal left) to) (sym same)
     (Acts.accepted request new asks (accepted_without_limits journal request accepted.unrefused) accepted.after)
 
 -- and so is one that a kernel refused for a cause that is no limit
-pub refuses_line : (freedom : Freedom) (script : List Line) (journal new : List Event) (left left_on : List ℕ) (names : Scope) (turn : Turn)
-    (request : Request) (cause : Refusal) → (scripted freedom script).asks journal (rest left names) turn ≡ Some request
-    → IsRefused journal request cause new → is_limit cause ≡ false → (cause ≡ OutOfMemory → ⊥) → left_on ≡ left_after turn left
-    → Acts (scripted freedom script) turn (state journal left names) (state new left_on names)
-refuses_line freedom script journal new left left_on names turn request cause asks refused other remembered is_left =
-    let same : state new left_on names ≡ record { journal = journal; rest = (scripted freedom script).refused (rest left names) turn cause }
+pub refuses_line : (freedom : Freedom) (script : List Line) (journal new : List Event) (left left_on : Rest) (turn : Turn) (request : Request)
+    (cause : Refusal) → (scripted freedom script).asks journal left turn ≡ Some request → IsRefused journal request cause new
+    → is_limit cause ≡ false → (cause ≡ OutOfMemory → ⊥) → left_on ≡ rest (left_after turn left.left) left.names
+    → Acts (scripted freedom script) turn (state journal left) (state new left_on)
+refuses_line freedom script journal new left left_on turn request cause asks refused other remembered is_left =
+    let same : state new left_on ≡ record { journal = journal; rest = (scripted freedom script).refused left turn cause }
     = rw (is_left, refused.unchanged) refl in
-    subst (λ to. Acts (scripted freedom script) turn (state journal left names) to) (sym same) (elim refused.named [
+    subst (λ to. Acts (scripted freedom script) turn (state journal left) to) (sym same) (elim refused.named [
       | inl named ↦ Acts.refused request cause asks (no_limit journal request cause other named)
       | inr wanting ↦ absurd (remembered wanting.1)
     ])

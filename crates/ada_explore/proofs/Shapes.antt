@@ -19,7 +19,7 @@ use Rattle.ada_explore.specs.declared.turns.Turn.{Turn}
 use Rattle.ada_explore.specs.declared.turns.Turn.TheVariants.{Line as Say, Time as Pass}
 use Rattle.ada_explore.specs.declared.turns.Freedom.{Freedom}
 use Rattle.ada_explore.specs.Scripts.{Rest, scripted, bound_so}
-use Rattle.ada_explore.specs.internal.Sameness.{shape}
+use Rattle.ada_explore.specs.Sameness.{shape}
 
 -- what a name is declared as, if it is declared
 abbrev pub shape_in : Scope → List ℕ → Option (Option (List (List ℕ)))

@@ -16,7 +16,7 @@ use Rattle.ada_statements.specs.Binding.{request_of, bind}
 use Rattle.ada_script.specs.declared.script.Line.{Line}
 use Rattle.ada_script.specs.Script.{scope_of}
 use Rattle.ada_waiting.specs.Standstill.{first_due}
-use Rattle.ada_schedules.specs.Schedules.{Program, State}
+use Rattle.ada_schedules.specs.Schedules.{Program}
 use Rattle.ada_explore.specs.declared.turns.Turn.{Turn}
 use Rattle.ada_explore.specs.declared.turns.Turn.TheVariants.{Line as Say, Time as Pass}
 use Rattle.ada_explore.specs.declared.turns.Time.{Time}
@@ -121,10 +121,8 @@ names_after script names Pass at made = names
 
 -- a script as a program: a choice is a turn, and each asks for something. A line that is refused is said, and changes
 -- nothing else
-abbrev pub scripted : Freedom → List Line → Program
+abbrev pub scripted : Freedom → List Line → Program Rest Turn
 scripted freedom script = record {
-  Rest = Rest;
-  Choice = Turn;
   start = record { left = asking freedom script; names = scope_of script };
   asks = asked_by freedom script;
   after = λ journal rest turn new. record {
@@ -134,7 +132,3 @@ scripted freedom script = record {
   refused = λ rest turn cause. record { left = left_after turn rest.left; names = rest.names };
   alone = λ journal rest turn. None;
 }
-
--- where a schedule of a script has come to
-abbrev pub at : List Event → List ℕ → Scope → State Rest
-at journal left names = record { journal = journal; rest = rest left names }

@@ -1,3 +1,2 @@
 -- What only private contracts and proofs cite: no caller meets it.
-pub mod Sameness
-pub mod Covering
+pub mod Choosing

@@ -3,9 +3,9 @@ ghost use Rattle.std.specs.Prelude.{◌≡◌};
 ghost use Rattle.std.specs.List.{list_all};
 ghost use Rattle.ada_standing.specs.Names.{renaming_of};
 ghost use Rattle.ada_statements.specs.Binding.{task_of, master_of};
-ghost use Rattle.ada_explore.specs.internal.Sameness as sameness;
-ghost use Rattle.ada_explore.specs.internal.Covering as covering;
+ghost use Rattle.ada_explore.specs.Sameness as sameness;
 
+use crate::Rest;
 use ada_events::{Master, TaskNo};
 use ada_script::{Line, Name, Names, Statement};
 use ada_standing::Renaming;
@@ -15,10 +15,10 @@ const NO_TASK: u16 = 65_535;
 
 /// What names are bound to after two schedules, and the names that lead from the one to the other.
 #[derive(Clone, Copy)]
-pub(crate) struct Scopes<'a> {
-    pub(crate) old: &'a Names,
-    pub(crate) new: &'a Names,
-    pub(crate) names: &'a Renaming,
+struct Scopes<'a> {
+    old: &'a Names,
+    new: &'a Names,
+    names: &'a Renaming,
 }
 
 impl Scopes<'_> {
@@ -65,7 +65,7 @@ impl Scopes<'_> {
     // The same of some names.
     fn name_same_tasks(&self, names: &[Name]) -> bool
         ensures { result ≡ list_all
-            (covering.names_same_task (renaming_of self.now.names.now) self.now.old.now
+            (sameness.names_same_task (renaming_of self.now.names.now) self.now.old.now
             self.now.new.now)
             names.now }
     {
@@ -83,7 +83,7 @@ impl Scopes<'_> {
     // Whether the tasks that a statement names are alike.
     fn says_same_tasks(&self, statement: &Statement) -> bool
         ensures { result ≡ list_all
-            (covering.names_same_task (renaming_of self.now.names.now) self.now.old.now
+            (sameness.names_same_task (renaming_of self.now.names.now) self.now.old.now
             self.now.new.now)
             (sameness.tasks_named statement.now) }
     {
@@ -117,7 +117,7 @@ impl Scopes<'_> {
     // Whether the masters under which a statement makes a task are alike.
     fn says_same_master(&self, statement: &Statement) -> bool
         ensures { result ≡ list_all
-            (covering.names_same_master (renaming_of self.now.names.now) self.now.old.now
+            (sameness.names_same_master (renaming_of self.now.names.now) self.now.old.now
             self.now.new.now)
             (sameness.masters_named statement.now) }
     {
@@ -146,8 +146,8 @@ impl Scopes<'_> {
         }
     }
 
-    /// Whether those in the lines at some places do.
-    pub(crate) fn say_alike(&self, script: &[Line], places: &[u16]) -> bool
+    // Whether those in the lines at some places do.
+    fn say_alike(&self, script: &[Line], places: &[u16]) -> bool
         ensures { result ≡ list_all (sameness.says_alike_at script.now
             (renaming_of self.now.names.now) self.now.old.now self.now.new.now) places.now }
     {
@@ -155,4 +155,18 @@ impl Scopes<'_> {
             .iter()
             .all(|place| self.says_alike_at(script, *place))
     }
+}
+
+/// Whether the names in the lines that are left of a script stand for the same in a second rest of it, under these
+/// names.
+pub(crate) fn say_alike(script: &[Line], old: &Rest, new: &Rest, names: &Renaming) -> bool
+    ensures { result ≡ list_all (sameness.says_alike_at script.now
+        (renaming_of names.now) old.now.names new.now.names) old.now.left }
+{
+    let scopes = Scopes {
+        old: old.names(),
+        new: new.names(),
+        names,
+    };
+    scopes.say_alike(script, old.left())
 }

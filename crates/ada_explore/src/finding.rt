@@ -1,10 +1,12 @@
 //! What is found of all schedules of a script.
 ghost use Rattle.std.specs.Prelude.{◌≡◌, true, IfOk, IfSome};
-ghost use Rattle.ada_explore.specs.Findings.{GetsStuck, NeverSays, NoneGetsStuck};
+ghost use Rattle.ada_search.specs.Findings.{GetsStuck, NoneGetsStuck};
+ghost use Rattle.ada_explore.specs.Findings.{NeverSays};
+ghost use Rattle.ada_explore.specs.Scripts.{scripted};
 
-use crate::covering::{covered_by, never_says};
 use crate::search::Search;
-use crate::{End, Halt, Refused, Space, Turn, Watch, follow, is_stuck};
+use crate::{End, Halt, Refused, Space, Turn, Watch, is_stuck, never_says};
+use ada_search::{covered_by, follow};
 
 /// A schedule from which on some lines are never said, whatever comes.
 #[derive(Drop)]
@@ -42,16 +44,16 @@ pub struct Finding {
 // Whether a schedule gets stuck: it is followed again.
 fn gets_stuck(space: Space<'_>, path: &[Turn]) -> Result<bool, Halt>
     ensures { IfOk result (λ stuck. stuck ≡ true
-        → GetsStuck space.entry.freedom space.entry.script.now path.now) }
+        → GetsStuck (scripted space.entry.freedom space.entry.script.now) path.now) }
 {
-    let end = follow(space, path)?;
+    let end = follow(space.alloc, &space, path)?;
     Ok(is_stuck(&end.kernel))
 }
 
 // The schedule that leads to a state, if it gets stuck.
 fn stuck_path(space: Space<'_>, path: Vec<Turn>) -> Result<Option<Vec<Turn>>, Halt>
     ensures { IfOk result (λ found. IfSome found (λ path.
-        GetsStuck space.entry.freedom space.entry.script.now path.items)) }
+        GetsStuck (scripted space.entry.freedom space.entry.script.now) path.items)) }
 {
     if gets_stuck(space, &path)? {
         Ok(Some(path))
@@ -63,7 +65,7 @@ fn stuck_path(space: Space<'_>, path: Vec<Turn>) -> Result<Option<Vec<Turn>>, Ha
 // The first schedule that a search met and that gets stuck.
 fn first_stuck(space: Space<'_>, search: &Search) -> Result<Option<Vec<Turn>>, Halt>
     ensures { IfOk result (λ found. IfSome found (λ path.
-        GetsStuck space.entry.freedom space.entry.script.now path.items)) }
+        GetsStuck (scripted space.entry.freedom space.entry.script.now) path.items)) }
 {
     match search.first {
         Some(state) => stuck_path(space, search.path(state)?),
@@ -136,12 +138,12 @@ fn covered<W: Watch>(
     watch: &mut W,
 ) -> Result<Option<u32>, Halt>
     ensures { IfOk result (λ found. IfSome found (λ states.
-        NoneGetsStuck space.entry.freedom space.entry.script.now)) }
+        NoneGetsStuck (scripted space.entry.freedom space.entry.script.now))) }
 {
     if search.end != End::AllSeen || search.first.is_some() {
         return Ok(None);
     }
-    match covered_by(space, most, watch) {
+    match covered_by(space.alloc, &space, most, watch) {
         Err(Halt::Limit(_)) => Ok(None),
         found => found,
     }
@@ -154,11 +156,11 @@ fn covered<W: Watch>(
 /// more lines than a script may have.
 pub fn explore<W: Watch>(space: Space<'_>, most: u32, watch: &mut W) -> Result<Finding, Halt>
     ensures stuck { IfOk result (λ finding. IfSome finding.stuck (λ path.
-        GetsStuck space.entry.freedom space.entry.script.now path.items)) }
+        GetsStuck (scripted space.entry.freedom space.entry.script.now) path.items)) }
     ensures stopped { IfOk result (λ finding. IfSome finding.stopped (λ stop.
         NeverSays space.entry.freedom space.entry.script.now stop.path.items stop.lines.items)) }
     ensures none { IfOk result (λ finding. IfSome finding.covered (λ states.
-        NoneGetsStuck space.entry.freedom space.entry.script.now)) }
+        NoneGetsStuck (scripted space.entry.freedom space.entry.script.now))) }
 {
     let search = Search::of(space, most, watch)?;
     let stuck = first_stuck(space, &search)?;

@@ -2,14 +2,13 @@
 //! promised of it: what it tells is followed again.
 
 use crate::ahead::Ahead;
-use crate::key::write_key;
-use crate::standing::asker_at;
-use crate::task_set::TaskSet;
+use crate::performing::perform;
+use crate::rest::asker_at;
 use crate::turns::{may_have, picks_below};
-use crate::watch::LOOK;
 use crate::{Halt, Progress, Space, Standing, Time, Turn, Watch, is_stuck};
 use ada_events::Refusal;
 use ada_script::Line;
+use ada_search::{LOOK, TaskSet, begin, copy_of, write_key};
 use ada_waiting::next_due;
 use indexmap::IndexSet;
 use std::alloc::Global;
@@ -159,12 +158,12 @@ impl Search {
 
     // Meets the beginning, to which no step leads.
     fn begin(&mut self, space: Space<'_>) -> Result<(), Halt> {
-        let standing = Standing::new(space)?;
+        let standing = begin(space.alloc, &space)?;
         let step = Step {
             from: 0,
             turn: Turn::Time,
         };
-        self.meet(space.script.lines(), standing, step)?;
+        self.meet(space, standing, step)?;
         Ok(())
     }
 
@@ -230,18 +229,18 @@ impl Search {
             return Ok(());
         };
         for turn in others {
-            let from = standing.copy(self.alloc)?;
+            let from = copy_of(self.alloc, &space, &standing)?;
             let step = Step {
                 from: state,
                 turn: *turn,
             };
-            self.step(space.script.lines(), from, step)?;
+            self.step(space, from, step)?;
         }
         let step = Step {
             from: state,
             turn: *last,
         };
-        self.step(space.script.lines(), standing, step)
+        self.step(space, standing, step)
     }
 
     // Notes a state in which no line may come.
@@ -256,16 +255,16 @@ impl Search {
     }
 
     // Takes a step.
-    fn step(&mut self, script: &[Line], from: Standing, step: Step) -> Result<(), Halt> {
+    fn step(&mut self, space: Space<'_>, from: Standing, step: Step) -> Result<(), Halt> {
         self.taken = self.taken.saturating_add(1);
         let mut standing = from;
-        match standing.perform(script, step.turn) {
-            Ok(None) => self.lead(script, standing, step),
+        match perform(space.script.lines(), &mut standing, step.turn) {
+            Ok(None) => self.lead(space, standing, step),
             Ok(Some(cause)) => {
                 if let Some(place) = step.turn.place() {
                     self.note_refused(place, cause, step)?;
                 }
-                self.lead(script, standing, step)
+                self.lead(space, standing, step)
             }
             Err(Halt::Limit(cause)) => {
                 self.end = End::Limit(cause);
@@ -309,8 +308,8 @@ impl Search {
     }
 
     // Notes where a step leads.
-    fn lead(&mut self, script: &[Line], standing: Standing, step: Step) -> Result<(), Halt> {
-        let to = self.meet(script, standing, step)?;
+    fn lead(&mut self, space: Space<'_>, standing: Standing, step: Step) -> Result<(), Halt> {
+        let to = self.meet(space, standing, step)?;
         let lead = Lead {
             from: step.from,
             to,
@@ -319,8 +318,8 @@ impl Search {
     }
 
     // The number of a state, which is noted if it is new.
-    fn meet(&mut self, script: &[Line], standing: Standing, step: Step) -> Result<u32, Halt> {
-        write_key(&mut self.key, script, &standing).map_err(|_| Halt::Memory)?;
+    fn meet(&mut self, space: Space<'_>, standing: Standing, step: Step) -> Result<u32, Halt> {
+        write_key(&mut self.key, &space, &standing).map_err(|_| Halt::Memory)?;
         if let Some(state) = self.keys.get_index_of(self.key.as_slice()) {
             return u32::try_from(state).map_err(|_| Halt::Memory);
         }
@@ -416,7 +415,7 @@ fn left_for_good(alloc: Global, script: &[Line], standing: &Standing) -> Result<
     if next_due(&standing.kernel).is_some() {
         return Ok(left);
     }
-    for place in &standing.left {
+    for place in &standing.rest.left {
         if is_held_at(script, standing, *place) {
             left.push(*place).map_err(|_| Halt::Memory)?;
         }
@@ -426,7 +425,7 @@ fn left_for_good(alloc: Global, script: &[Line], standing: &Standing) -> Result<
 
 // Whether the task of a line is suspended, and not at an open terminate alternative (9.7.1).
 fn is_held_at(script: &[Line], standing: &Standing, place: u16) -> bool {
-    let task = asker_at(script, &standing.names, place);
+    let task = asker_at(script, &standing.rest.names, place);
     match task.and_then(|task| standing.kernel.record(task)) {
         Some(record) => {
             !record.has_ended() && record.suspension.at > 0 && !record.suspension.quittable
@@ -437,9 +436,9 @@ fn is_held_at(script: &[Line], standing: &Standing, place: u16) -> bool {
 
 // Where a path of the search leads. Each of its turns was found to come next.
 fn play(space: Space<'_>, path: &[Turn]) -> Result<Standing, Halt> {
-    let mut standing = Standing::new(space)?;
+    let mut standing = begin(space.alloc, &space)?;
     for turn in path {
-        standing.perform(space.script.lines(), *turn)?;
+        perform(space.script.lines(), &mut standing, *turn)?;
     }
     Ok(standing)
 }
@@ -455,8 +454,8 @@ fn choices(space: Space<'_>, standing: &Standing) -> Result<Vec<Turn>, Halt> {
     let mut choices = Vec::new(space.alloc);
     let mut spoken = TaskSet::new();
     let mut tick = None;
-    for place in &standing.left {
-        match asker_at(script, &standing.names, *place) {
+    for place in &standing.rest.left {
+        match asker_at(script, &standing.rest.names, *place) {
             Some(task) if spoken.insert(task) => {
                 if standing.kernel.running(task) == Some(true) {
                     add_turns(space, &mut choices, *place)?;

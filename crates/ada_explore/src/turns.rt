@@ -4,8 +4,7 @@ ghost use Rattle.ada_events.specs.declared.limits.TheConstants.{MOST_DELAYS};
 ghost use Rattle.ada_explore.specs.Picks as picking;
 
 use ada_events::{Request, Tail};
-use ada_script::{Line, Script, Statement};
-use std::alloc::Global;
+use ada_script::{Line, Statement};
 
 /// One step of a schedule.
 #[derive(Clone, Copy, Debug, PartialEq, Eq)]
@@ -54,14 +53,6 @@ pub enum Time {
 pub struct Freedom {
     pub picks: Picks,
     pub time: Time,
-}
-
-/// A script whose schedules are looked at.
-#[derive(Clone, Copy)]
-pub struct Space<'a> {
-    pub alloc: Global,
-    pub script: &'a Script,
-    pub freedom: Freedom,
 }
 
 // How many delay alternatives a selective wait has.

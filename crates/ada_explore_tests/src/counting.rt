@@ -51,11 +51,7 @@ fn found_by<W: Watch>(
     watch: &mut W,
 ) -> Result<Finding, Halt> {
     let script = read(alloc, text).map_err(|_| Halt::Memory)?;
-    let space = Space {
-        alloc,
-        script: &script,
-        freedom: AS_WRITTEN,
-    };
+    let space = Space::new(alloc, &script, AS_WRITTEN)?;
     explore(space, most, watch)
 }
 

@@ -1,8 +1,9 @@
 //! Whether no schedule of a script gets stuck, of scripts whose schedules were gone through by hand.
 
 use crate::plain::AS_WRITTEN;
-use ada_explore::{Halt, Space, Unwatched, covered_by};
+use ada_explore::{Halt, Space, Unwatched};
 use ada_script::read;
+use ada_search::covered_by;
 use std::alloc::{AllocError, Global};
 use std::test::Fail;
 
@@ -86,12 +87,8 @@ fn dinner_with(alloc: Global, bob: &[u8]) -> Result<Vec<u8>, AllocError> {
 
 fn covered_in(alloc: Global, text: &[u8], most: u32) -> Result<Option<u32>, Halt> {
     let script = read(alloc, text).map_err(|_| Halt::Memory)?;
-    let space = Space {
-        alloc,
-        script: &script,
-        freedom: AS_WRITTEN,
-    };
-    covered_by(space, most, &mut Unwatched)
+    let space = Space::new(alloc, &script, AS_WRITTEN)?;
+    covered_by(alloc, &space, most, &mut Unwatched)
 }
 
 #[test]

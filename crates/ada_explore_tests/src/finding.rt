@@ -43,11 +43,7 @@ const MOST: u32 = 1_000_000;
 // How long the shortest schedule is that gets stuck, by the search, which sees all, and by the plain one.
 fn found_in(alloc: Global, text: &[u8]) -> Result<(Option<usize>, Option<usize>), Halt> {
     let script = read(alloc, text).map_err(|_| Halt::Memory)?;
-    let space = Space {
-        alloc,
-        script: &script,
-        freedom: AS_WRITTEN,
-    };
+    let space = Space::new(alloc, &script, AS_WRITTEN)?;
     let found = explore(space, u32::MAX, &mut Unwatched)?;
     if found.end != End::AllSeen {
         return Err(Halt::TooLong);

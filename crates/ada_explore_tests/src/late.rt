@@ -45,11 +45,7 @@ tick 10
 
 fn found_in(alloc: Global, text: &[u8], freedom: Freedom) -> Result<Finding, Halt> {
     let script = read(alloc, text).map_err(|_| Halt::Memory)?;
-    let space = Space {
-        alloc,
-        script: &script,
-        freedom,
-    };
+    let space = Space::new(alloc, &script, freedom)?;
     explore(space, u32::MAX, &mut Unwatched)
 }
 

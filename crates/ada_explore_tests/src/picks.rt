@@ -43,14 +43,11 @@ const PICKS: u32 = 3;
 
 fn stuck_in(alloc: Global, text: &[u8], picks: Picks) -> Result<Option<Vec<Turn>>, Halt> {
     let script = read(alloc, text).map_err(|_| Halt::Memory)?;
-    let space = Space {
-        alloc,
-        script: &script,
-        freedom: Freedom {
-            picks,
-            time: Time::ByTicks,
-        },
+    let freedom = Freedom {
+        picks,
+        time: Time::ByTicks,
     };
+    let space = Space::new(alloc, &script, freedom)?;
     let found = explore(space, u32::MAX, &mut Unwatched)?;
     if found.stuck.is_some() == found.covered.is_some() {
         return Err(Halt::TooLong);
@@ -138,11 +135,7 @@ fn ends_of_all(alloc: Global, text: &str, variants: u32) -> Result<Ends, Halt> {
     for number in 0..variants {
         let with_picks = variant(alloc, text, number).map_err(|_| Halt::Memory)?;
         let script = read(alloc, with_picks.as_bytes()).map_err(|_| Halt::Memory)?;
-        let space = Space {
-            alloc,
-            script: &script,
-            freedom: AS_WRITTEN,
-        };
+        let space = Space::new(alloc, &script, AS_WRITTEN)?;
         all = all.with(ends_of(space, MOST)?);
     }
     Ok(all)
@@ -166,14 +159,11 @@ fn first_differing(alloc: Global, dice: &mut Dice) -> Result<String, Halt> {
         };
         let with_picks = variant(alloc, &text, dice.below(9)).map_err(|_| Halt::Memory)?;
         let script = read(alloc, with_picks.as_bytes()).map_err(|_| Halt::Memory)?;
-        let space = Space {
-            alloc,
-            script: &script,
-            freedom: Freedom {
-                picks: Picks::All,
-                time: Time::ByTicks,
-            },
+        let freedom = Freedom {
+            picks: Picks::All,
+            time: Time::ByTicks,
         };
+        let space = Space::new(alloc, &script, freedom)?;
         if !finds(space, ends)? {
             return Ok(with_picks);
         }

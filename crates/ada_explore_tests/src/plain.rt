@@ -1,9 +1,10 @@
 //! A plain search: it goes through each schedule to its end, and takes no two states for the same.
 
 use ada_events::TaskNo;
-use ada_explore::{Freedom, Halt, Picks, Space, Standing, Time, Turn, follow, is_stuck};
+use ada_explore::{Freedom, Halt, Picks, Space, Standing, Time, Turn, is_stuck};
 use ada_kernel::Kernel;
 use ada_script::{Line, Statement};
+use ada_search::follow;
 use ada_waiting::next_due;
 use std::alloc::Global;
 
@@ -36,7 +37,7 @@ pub fn ends_of(space: Space<'_>, most: u32) -> Result<Ends, Halt> {
         let Some(path) = open.pop() else {
             return Ok(ends);
         };
-        let standing = follow(space, &path)?;
+        let standing = follow(space.alloc, &space, &path)?;
         let met = open.len();
         go_on(space, &standing, &path, &mut open)?;
         if is_stuck(&standing.kernel) {
@@ -77,8 +78,11 @@ fn go_on(
     open: &mut Vec<Vec<Turn>>,
 ) -> Result<(), Halt> {
     let met = open.len();
-    for place in &standing.left {
-        if standing.may_come(space.script.lines(), *place) {
+    for place in &standing.rest.left {
+        if standing
+            .rest
+            .may_come(space.script.lines(), &standing.kernel, *place)
+        {
             let turn = Turn::Line {
                 place: *place,
                 pick: None,
@@ -107,7 +111,7 @@ fn longer(alloc: Global, path: &[Turn], turn: Turn) -> Result<Vec<Turn>, Halt> {
 // Whether a task that has lines left is held up where no line may come, and nothing is due.
 fn stops(script: &[Line], standing: &Standing) -> bool {
     next_due(&standing.kernel).is_none()
-        && standing.left.iter().any(|place| match script.get(usize::from(*place)) {
+        && standing.rest.left.iter().any(|place| match script.get(usize::from(*place)) {
             Some(line) => match speaker(&line.statement, standing) {
                 Some(task) => is_held(&standing.kernel, task),
                 None => false,
@@ -128,7 +132,7 @@ fn speaker(statement: &Statement, standing: &Standing) -> Option<TaskNo> {
         | Statement::End { by }
         | Statement::Delay { by, .. }
         | Statement::Abort { by, .. }
-        | Statement::Complete { by } => Some(standing.names.task(by)),
+        | Statement::Complete { by } => Some(standing.rest.names.task(by)),
         _ => None,
     }
 }

@@ -88,11 +88,7 @@ pub fn first_differing(alloc: Global, dice: &mut Dice, freedom: Freedom) -> Resu
         }
         let text = script_text(alloc, dice).map_err(|_| Halt::Memory)?;
         let script = read(alloc, text.as_bytes()).map_err(|_| Halt::Memory)?;
-        let space = Space {
-            alloc,
-            script: &script,
-            freedom,
-        };
+        let space = Space::new(alloc, &script, freedom)?;
         match ends_of(space, MOST) {
             Err(Halt::TooLong) => {}
             Ok(ends) if finds(space, ends)? => tried = tried.saturating_add(1),

@@ -53,11 +53,7 @@ Ann: complete
 
 fn stop_in(alloc: Global, text: &[u8]) -> Result<Option<Stop>, Halt> {
     let script = read(alloc, text).map_err(|_| Halt::Memory)?;
-    let space = Space {
-        alloc,
-        script: &script,
-        freedom: AS_WRITTEN,
-    };
+    let space = Space::new(alloc, &script, AS_WRITTEN)?;
     let found = explore(space, u32::MAX, &mut Unwatched)?;
     if found.stuck.is_some() || found.stopped.is_some() == found.covered.is_some() {
         return Err(Halt::TooLong);

@@ -18,18 +18,18 @@ use Rattle.ada_standing.proofs.led.Leading.{leads_alike}
 use Rattle.ada_schedules.specs.Schedules.{Program, State, Acts, Comes, Reaches, beginning}
 use Rattle.ada_schedules.specs.Closed.{asked_in, went_on, was_refused, left_alone, went_alone, StandsFor, SpeaksInNames, Covers, IsClosed}
 use Rattle.ada_schedules.specs.Stuck.{IsStuck}
-use Rattle.ada_schedules.specs.Laws.{program_of, Passing, PassingBoth, ClosedSetsCoverWhatFollows, ClosedSetsCoverAll, NoScheduleGetsStuck}
+use Rattle.ada_schedules.specs.Laws.{Passing, PassingBoth, ClosedSetsCoverWhatFollows, ClosedSetsCoverAll, NoScheduleGetsStuck}
 use Rattle.ada_schedules.proofs.Once.{came, comes_once}
 use Rattle.ada_schedules.proofs.Stuck.{few_tasks, stuck_alike}
 
 -- what a schedule comes to is lawful and settled
-come_lawful : (program : Program) (choices : List program.Choice) (state : State program.Rest) → Comes program choices state
+come_lawful : {Rest Choice : Type 0} (program : Program Rest Choice) (choices : List Choice) (state : State Rest) → Comes program choices state
     → IsLawfulUnlimited state.journal × IsSettled state.journal
 come_lawful program choices state (Comes.begun) = (tt, empty_is_settled)
-come_lawful program choices state (Comes.one_more {choices = before} {from} {to} choice comes acts) =
+come_lawful {Rest = Rest} program choices state (Comes.one_more {choices = before} {from} {to} choice comes acts) =
     on from to acts (come_lawful program before from comes)
   where
-    on : (here there : State program.Rest) → Acts program choice here there → IsLawfulUnlimited here.journal × IsSettled here.journal
+    on : (here there : State Rest) → Acts program choice here there → IsLawfulUnlimited here.journal × IsSettled here.journal
         → IsLawfulUnlimited there.journal × IsSettled there.journal
     on here _ (Acts.accepted request journal asks accepted leads) (lawful, settled) =
         (after-unlimited here.journal request journal lawful settled accepted leads, leads.settled)
@@ -37,17 +37,17 @@ come_lawful program choices state (Comes.one_more {choices = before} {from} {to}
     on here _ (Acts.alone rest asks leaves) known = known
 
 -- a schedule came to the state, which is covered, lawful and settled
-pub record IsCovered (program : Program) (Same : Renaming → program.Rest → program.Rest → Type 0) (Within : State program.Rest → Type 0)
-    (state : State program.Rest) : Type 0 where
+pub record IsCovered {Rest Choice : Type 0} (program : Program Rest Choice) (Same : Renaming → Rest → Rest → Type 0) (Within : State Rest → Type 0)
+    (state : State Rest) : Type 0 where
   pub reached : Reaches program state
   pub covered : Covers program Same Within state
   pub lawful : IsLawfulUnlimited state.journal
   pub settled : IsSettled state.journal
 
-module _ (program : Program) (Same : Renaming → program.Rest → program.Rest → Type 0) (Within : State program.Rest → Type 0)
+module _ {Rest Choice : Type 0} (program : Program Rest Choice) (Same : Renaming → Rest → Rest → Type 0) (Within : State Rest → Type 0)
     (speaks : SpeaksInNames program Same) (closed : IsClosed program Same Within) where
   -- the state that covers one stands in for it
-  stands_for : (state : State program.Rest) (known : IsCovered program Same Within state)
+  stands_for : (state : State Rest) (known : IsCovered program Same Within state)
       → StandsFor program Same state known.covered.by known.covered.names
   stands_for state known = record {
     reached = known.reached;
@@ -58,7 +58,7 @@ module _ (program : Program) (Same : Renaming → program.Rest → program.Rest 
   }
 
   -- what stands in for what stands in for a state covers it, too
-  cover_on : (state other : State program.Rest) (names : Renaming) → StandsIn state.journal other.journal names
+  cover_on : (state other : State Rest) (names : Renaming) → StandsIn state.journal other.journal names
       → IsLawfulUnlimited state.journal → Same names state.rest other.rest → Covers program Same Within other → Covers program Same Within state
   cover_on state other names stands lawful same covered = record {
     by = covered.by;
@@ -69,7 +69,7 @@ module _ (program : Program) (Same : Renaming → program.Rest → program.Rest 
   }
 
   -- a request is refused alike by what covers a state
-  refuses_alike : (state : State program.Rest) (choice : program.Choice) (request : Request) (known : IsCovered program Same Within state)
+  refuses_alike : (state : State Rest) (choice : Choice) (request : Request) (known : IsCovered program Same Within state)
       → asked_in program state choice ≡ Some request
       → refusal_but_limits known.covered.by.journal (renamed_request known.covered.names request) ≡ refusal_but_limits state.journal request
   refuses_alike state choice request known asks =
@@ -79,7 +79,7 @@ module _ (program : Program) (Same : Renaming → program.Rest → program.Rest 
       (few_tasks here.by.journal within) (speaks.kept state here.by here.names choice request (stands_for state known) asks)
 
   -- what an accepted request leads to is covered again
-  accepted_on : (state : State program.Rest) (choice : program.Choice) (request : Request) (journal : List Event)
+  accepted_on : (state : State Rest) (choice : Choice) (request : Request) (journal : List Event)
       → IsCovered program Same Within state → asked_in program state choice ≡ Some request
       → refusal_but_limits state.journal request ≡ None → After state.journal request journal
       → IsCovered program Same Within (went_on program state choice journal)
@@ -106,7 +106,7 @@ module _ (program : Program) (Same : Renaming → program.Rest → program.Rest 
       }
 
   -- what a refused request leaves is covered again
-  refused_on : (state : State program.Rest) (choice : program.Choice) (request : Request) (cause : Refusal) → IsCovered program Same Within state
+  refused_on : (state : State Rest) (choice : Choice) (request : Request) (cause : Refusal) → IsCovered program Same Within state
       → asked_in program state choice ≡ Some request → refusal_but_limits state.journal request ≡ Some cause
       → IsCovered program Same Within (was_refused program state choice cause)
   refused_on state choice request cause known asks refused =
@@ -124,7 +124,7 @@ module _ (program : Program) (Same : Renaming → program.Rest → program.Rest 
       }
 
   -- what a choice leaves that asks for nothing is covered again
-  alone_on : (state : State program.Rest) (choice : program.Choice) (rest : program.Rest) → IsCovered program Same Within state
+  alone_on : (state : State Rest) (choice : Choice) (rest : Rest) → IsCovered program Same Within state
       → asked_in program state choice ≡ None → left_alone program state choice ≡ Some rest
       → IsCovered program Same Within (went_alone program state rest)
   alone_on state choice rest known asks leaves =
@@ -139,57 +139,57 @@ module _ (program : Program) (Same : Renaming → program.Rest → program.Rest 
         settled = known.settled;
       }
 
-  acts_on : (choice : program.Choice) (from to : State program.Rest) → IsCovered program Same Within from → Acts program choice from to
+  acts_on : (choice : Choice) (from to : State Rest) → IsCovered program Same Within from → Acts program choice from to
       → IsCovered program Same Within to
   acts_on choice from to known (Acts.accepted request journal asks accepted leads) = accepted_on from choice request journal known asks accepted leads
   acts_on choice from to known (Acts.refused request cause asks refused) = refused_on from choice request cause known asks refused
   acts_on choice from to known (Acts.alone rest asks leaves) = alone_on from choice rest known asks leaves
 
   -- whatever follows a covered state is covered
-  pub follows_covered : (choices : List program.Choice) (from : State program.Rest) → Comes program choices from → Covers program Same Within from
-      → (more : List program.Choice) (to : State program.Rest) → Comes program (more ++ choices) to → IsCovered program Same Within to
+  pub follows_covered : (choices : List Choice) (from : State Rest) → Comes program choices from → Covers program Same Within from
+      → (more : List Choice) (to : State Rest) → Comes program (more ++ choices) to → IsCovered program Same Within to
   follows_covered choices from comes covers [] to also =
       let (lawful, settled) = come_lawful program choices from comes in
-      subst (λ (s : State program.Rest). IsCovered program Same Within s) (comes_once program choices from to comes also)
+      subst (λ (s : State Rest). IsCovered program Same Within s) (comes_once program choices from to comes also)
       (record { reached = (choices, comes); covered = covers; lawful = lawful; settled = settled })
   follows_covered choices from comes covers (choice ∷ more) to also =
       let (before, there, acts) = came program (choice ∷ (more ++ choices)) to also in
       acts_on choice before to (follows_covered choices from comes covers more before there) acts
 
   -- whatever a schedule comes to is covered, if the beginning is
-  reached_covered : Covers program Same Within (beginning program) → (state : State program.Rest) → Reaches program state
+  reached_covered : Covers program Same Within (beginning program) → (state : State Rest) → Reaches program state
       → IsCovered program Same Within state
   reached_covered begun state (choices, comes) =
       follows_covered [] (beginning program) Comes.begun begun choices state
-      (subst (λ (all : List program.Choice). Comes program all state) (sym (append-nil choices)) comes)
+      (subst (λ (all : List Choice). Comes program all state) (sym (append-nil choices)) comes)
 
-  all_covered : Covers program Same Within (beginning program) → (state : State program.Rest) → Reaches program state
+  all_covered : Covers program Same Within (beginning program) → (state : State Rest) → Reaches program state
       → Covers program Same Within state
   all_covered begun state reached = (reached_covered begun state reached).covered
 
   -- a stuck state is covered by a stuck one
-  pub stuck_within : (state : State program.Rest) (known : IsCovered program Same Within state) → IsStuck state.journal
+  pub stuck_within : (state : State Rest) (known : IsCovered program Same Within state) → IsStuck state.journal
       → IsStuck known.covered.by.journal
   stuck_within state known stuck =
       let here = known.covered in
       stuck_alike state.journal here.by.journal here.names here.stands known.lawful (closed.lawful here.by here.within) known.settled stuck
 
   -- and if none of the set is stuck, nothing is that a schedule comes to
-  none_stuck : Covers program Same Within (beginning program) → ((state : State program.Rest) → Within state → IsStuck state.journal → ⊥)
-      → (state : State program.Rest) → Reaches program state → IsStuck state.journal → ⊥
+  none_stuck : Covers program Same Within (beginning program) → ((state : State Rest) → Within state → IsStuck state.journal → ⊥)
+      → (state : State Rest) → Reaches program state → IsStuck state.journal → ⊥
   none_stuck begun none state reached stuck =
       let known = reached_covered begun state reached in
       none known.covered.by known.covered.within (stuck_within state known stuck)
 
 pub closed_sets_cover_what_follows : {Rest Choice : Type 0} → ClosedSetsCoverWhatFollows Rest Choice
-closed_sets_cover_what_follows {Rest} {Choice} start asks after refused alone same within speaks closed choices more from to comes covers also =
-    (follows_covered (program_of Rest Choice start asks after refused alone) (PassingBoth same) (Passing within) speaks closed choices from comes covers more
+closed_sets_cover_what_follows program same within speaks closed choices more from to comes covers also =
+    (follows_covered program (PassingBoth same) (Passing within) speaks closed choices from comes covers more
     to also).covered
 
 pub closed_sets_cover_all : {Rest Choice : Type 0} → ClosedSetsCoverAll Rest Choice
-closed_sets_cover_all {Rest} {Choice} start asks after refused alone same within speaks closed begun =
-    all_covered (program_of Rest Choice start asks after refused alone) (PassingBoth same) (Passing within) speaks closed begun
+closed_sets_cover_all program same within speaks closed begun =
+    all_covered program (PassingBoth same) (Passing within) speaks closed begun
 
 pub no_schedule_gets_stuck : {Rest Choice : Type 0} → NoScheduleGetsStuck Rest Choice
-no_schedule_gets_stuck {Rest} {Choice} start asks after refused alone same within speaks closed begun none =
-    none_stuck (program_of Rest Choice start asks after refused alone) (PassingBoth same) (Passing within) speaks closed begun none
+no_schedule_gets_stuck program same within speaks closed begun none =
+    none_stuck program (PassingBoth same) (Passing within) speaks closed begun none

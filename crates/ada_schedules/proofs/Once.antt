@@ -9,8 +9,8 @@ use Rattle.ada_schedules.specs.Schedules.{Program, State, Acts, Comes, beginning
 use Rattle.ada_schedules.specs.Closed.{went_on, was_refused, went_alone}
 
 -- a choice leads to one state: it asks for one request, which is accepted or refused, or for none
-pub acts_once : (program : Program) (choice : program.Choice) (from a b : State program.Rest) → Acts program choice from a → Acts program choice from b
-    → a ≡ b
+pub acts_once : {Rest Choice : Type 0} (program : Program Rest Choice) (choice : Choice) (from a b : State Rest) → Acts program choice from a
+    → Acts program choice from b → a ≡ b
 acts_once program choice from _ _ (Acts.accepted request journal asks accepted after) (Acts.accepted other next too also leads) =
     let same : other ≡ request = same_Some other request (sym too ∙ asks) in
     let one : journal ≡ next
@@ -39,19 +39,19 @@ acts_once program choice from _ _ (Acts.refused request cause asks refused) (Act
     absurd (none-some request (sym none ∙ asks))
 
 -- the step before the last one of a schedule
-abbrev pub Came : (program : Program) → List program.Choice → State program.Rest → Type 0
+abbrev pub Came : {Rest Choice : Type 0} (program : Program Rest Choice) → List Choice → State Rest → Type 0
 Came program [] to = to ≡ beginning program
-Came program (choice ∷ choices) to = (from : State program.Rest) × Comes program choices from × Acts program choice from to
+Came {Rest = Rest} program (choice ∷ choices) to = (from : State Rest) × Comes program choices from × Acts program choice from to
 
-pub came : (program : Program) (choices : List program.Choice) (to : State program.Rest) → Comes program choices to → Came program choices to
+pub came : {Rest Choice : Type 0} (program : Program Rest Choice) (choices : List Choice) (to : State Rest) → Comes program choices to → Came program choices to
 came program choices to (Comes.begun) = refl
 came program choices to (Comes.one_more {choices = before} {from} {to = end} choice comes acts) = (from, comes, acts)
 
-pub comes_once : (program : Program) (choices : List program.Choice) (a b : State program.Rest) → Comes program choices a → Comes program choices b
-    → a ≡ b
+pub comes_once : {Rest Choice : Type 0} (program : Program Rest Choice) (choices : List Choice) (a b : State Rest) → Comes program choices a
+    → Comes program choices b → a ≡ b
 comes_once program [] a b first second = came program [] a first ∙ sym (came program [] b second)
-comes_once program (choice ∷ choices) a b first second =
+comes_once {Rest = Rest} program (choice ∷ choices) a b first second =
     let (from, comes, acts) = came program (choice ∷ choices) a first in
     let (other, too, also) = came program (choice ∷ choices) b second in
     let same : from ≡ other = comes_once program choices from other comes too in
-    acts_once program choice other a b (subst (λ (s : State program.Rest). Acts program choice s a) same acts) also
+    acts_once program choice other a b (subst (λ (s : State Rest). Acts program choice s a) same acts) also

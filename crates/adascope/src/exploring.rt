@@ -24,11 +24,7 @@ pub fn tell_schedules<R: Files + Input + Print + Eprint + Clock + AllocGlobal>(
 ) -> Result<Finding, ScopeFault> {
     let text = text_of(rt, order.file)?;
     let script = read_script(rt.alloc(), &text)?;
-    let space = Space {
-        alloc: rt.alloc(),
-        script: &script,
-        freedom: freedom_of(order),
-    };
+    let space = Space::new(rt.alloc(), &script, freedom_of(order)).map_err(fault_of)?;
     let found = search(rt, space, order, is_watched)?;
     let source = Source::of(rt.alloc(), &text).map_err(|_| RunFault::Memory)?;
     let told = Told {

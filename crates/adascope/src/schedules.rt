@@ -3,11 +3,10 @@
 use crate::line_numbers::LineNumbers;
 use ada_explain::standstill::write_standstill;
 use ada_explain::{Scene, Source};
-use ada_explore::{
-    End, Finding as Explored, Halt, Picks, Space, Standing, Stop, Time, Turn, follow,
-};
+use ada_explore::{End, Finding as Explored, Halt, Picks, Space, Standing, Stop, Time, Turn};
 use ada_replay::RunFault;
 use ada_script::{Line, Statement};
+use ada_search::{Schedules, begin, follow};
 use std::alloc::AllocError;
 
 /// A script, with its text.
@@ -81,8 +80,8 @@ impl<'t> Told<'_, 't> {
         self.write_refused(&mut text, found)
             .map_err(|_| RunFault::Memory)?;
         if let Some(path) = schedule_in(found) {
-            let end = follow(self.space, path).map_err(fault_of)?;
-            write_standstill(&mut text, Scene::of(&end.kernel, &end.names)).map_err(
+            let end = follow(self.space.alloc, &self.space, path).map_err(fault_of)?;
+            write_standstill(&mut text, Scene::of(&end.kernel, &end.rest.names)).map_err(
                 |_| RunFault::Memory,
             )?;
         }
@@ -263,18 +262,16 @@ impl<'t> Told<'_, 't> {
     ) -> Result<(), AllocError> {
         match turn {
             Turn::Line { place, pick } => self.write_line(text, place, pick),
-            Turn::Time => write!(text, "tick {}\n", standing.moment()),
+            Turn::Time => write!(text, "tick {}\n", standing.kernel.view().moment()),
         }
     }
 
     /// The lines of a schedule as a script, but for the refused ones, without which it leads to the same.
     pub fn lines_of(&self, path: &[Turn]) -> Result<String, RunFault> {
-        let mut standing = Standing::new(self.space).map_err(fault_of)?;
+        let mut standing = begin(self.space.alloc, &self.space).map_err(fault_of)?;
         let mut lines = String::new(self.space.alloc);
         for turn in path {
-            let refused = standing
-                .say(self.space.script.lines(), self.space.freedom, *turn)
-                .map_err(fault_of)?;
+            let refused = self.space.take(&mut standing, *turn).map_err(fault_of)?;
             if refused.is_none() {
                 self.write_turn(&mut lines, *turn, &standing)
                     .map_err(|_| RunFault::Memory)?;

@@ -19,7 +19,7 @@ use Rattle.ada_statements.specs.Scope.{Scope}
 use Rattle.ada_statements.specs.Binding.{task_of, master_of, request_of}
 use Rattle.ada_script.specs.declared.script.Line.{Line}
 use Rattle.ada_explore.specs.Scripts.{request_at, asker_at, is_same}
-use Rattle.ada_explore.specs.internal.Sameness.{stands_for, same_task, same_master, says_alike_at}
+use Rattle.ada_explore.specs.Sameness.{stands_for, same_task, same_master, says_alike_at}
 use Rattle.ada_explore.proofs.naming.Passing.{first_passes, others_pass}
 use Rattle.ada_explore.proofs.naming.Numbers.{stands_parts, stand_apart}
 use Rattle.ada_explore.proofs.naming.Requests.{task_alike, master_alike, NamesAlike, names_alike, line_says}

@@ -13,7 +13,7 @@ use Rattle.ada_statements.specs.declared.statement.Statement.{Statement}
 use Rattle.ada_statements.specs.declared.statement.Statement.TheVariants.{Open, Create}
 use Rattle.ada_statements.specs.Scope.{Scope, meaning_of}
 use Rattle.ada_statements.specs.Binding.{bind, with_meaning, with_made, with_opened}
-use Rattle.ada_explore.specs.internal.Sameness.{shape}
+use Rattle.ada_explore.specs.Sameness.{shape}
 
 -- ---- another meaning of one name
 

@@ -11,7 +11,7 @@ use Rattle.ada_statements.specs.Scope.{Scope}
 use Rattle.ada_statements.specs.Binding.{task_of, master_of}
 use Rattle.ada_script.specs.declared.script.Line.{Line}
 use Rattle.ada_explore.specs.Scripts.{Rest, rest, without}
-use Rattle.ada_explore.specs.internal.Sameness.{same_task, same_master, says_alike, says_alike_at, tasks_named, masters_named, SameRest}
+use Rattle.ada_explore.specs.Sameness.{same_task, same_master, says_alike, says_alike_at, tasks_named, masters_named, SameRest}
 use Rattle.ada_explore.proofs.naming.Passing.{all_both, all_kept}
 use Rattle.ada_explore.proofs.naming.Numbers.{stands_along}
 use Rattle.ada_explore.proofs.naming.Requests.{task_alike, master_alike, names_alike, says_from, line_says}

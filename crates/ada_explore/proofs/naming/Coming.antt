@@ -21,7 +21,7 @@ use Rattle.ada_explore.specs.declared.turns.Turn.TheVariants.{Line as Say, Time 
 use Rattle.ada_explore.specs.declared.turns.Freedom.{Freedom}
 use Rattle.ada_explore.specs.Picks.{may_have, with_pick}
 use Rattle.ada_explore.specs.Scripts.{Rest, rest, scripted, request_at, asker_at, is_same, next_of, is_next, runs, may_say, all_silent, may_come, is_late}
-use Rattle.ada_explore.specs.internal.Sameness.{says_alike_at}
+use Rattle.ada_explore.specs.Sameness.{says_alike_at}
 use Rattle.ada_explore.proofs.naming.Passing.{find_alike, any_alike, found_within}
 use Rattle.ada_explore.proofs.naming.Numbers.{stands_parts, is_that}
 use Rattle.ada_explore.proofs.naming.Askers.{AskAlike, AreApart, some_alike, same_alike, asker_at_alike}

@@ -15,7 +15,7 @@ use Rattle.ada_statements.specs.Scope.{Scope, meaning_of}
 use Rattle.ada_statements.specs.Binding.{bind, with_made, with_opened, no_task, task_in, master_in, task_of, master_of}
 use Rattle.ada_script.specs.declared.script.Line.{Line}
 use Rattle.ada_explore.specs.Scripts.{Rest, rest, without, bound_so}
-use Rattle.ada_explore.specs.internal.Sameness.{stands_for, same_task, same_master, says_alike, says_alike_at, tasks_named, masters_named, shape, SameRest}
+use Rattle.ada_explore.specs.Sameness.{stands_for, same_task, same_master, says_alike, says_alike_at, tasks_named, masters_named, shape, SameRest}
 use Rattle.ada_explore.proofs.naming.Passing.{all_on, all_kept}
 use Rattle.ada_explore.proofs.naming.Bindings.{AreOfOneShape, one_shape, bound_by, meaning_bound, shape_bound}
 use Rattle.ada_explore.proofs.naming.Requests.{DeclaredAlike, task_alike, master_alike, names_alike, says_from, line_says}

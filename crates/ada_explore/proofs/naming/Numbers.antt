@@ -4,7 +4,7 @@ use Rattle.std.specs.Option.{option_and_then, unwrap_or}
 use Rattle.std.proofs.lemmas.Bool.{and_parts, false≢true, eq-eqb, ne_eqb}
 use Rattle.std.proofs.lemmas.Bool.Decides.{eqb_tells}
 use Rattle.ada_explore.specs.Scripts.{is_same}
-use Rattle.ada_explore.specs.internal.Sameness.{stands_for}
+use Rattle.ada_explore.specs.Sameness.{stands_for}
 
 -- both are free
 pub record IsFree (names : ℕ → Option ℕ) (free old new : ℕ) : Type 0 where

@@ -26,7 +26,7 @@ use Rattle.ada_statements.specs.Scope.{Scope, meaning_of, entry_names_in, entrie
 use Rattle.ada_statements.specs.Binding.{task_of, master_of, place_of, entry_of, choice_of, family_of, called, request_of}
 use Rattle.ada_script.specs.declared.script.Line.{Line}
 use Rattle.ada_explore.specs.Scripts.{request_at}
-use Rattle.ada_explore.specs.internal.Sameness.{same_task, same_master, says_alike, says_alike_at, tasks_named, masters_named, shape}
+use Rattle.ada_explore.specs.Sameness.{same_task, same_master, says_alike, says_alike_at, tasks_named, masters_named, shape}
 use Rattle.ada_explore.proofs.naming.Passing.{first_passes, others_pass}
 use Rattle.ada_explore.proofs.naming.Numbers.{asked_so}
 

@@ -33,7 +33,7 @@ use Rattle.ada_explore.specs.declared.turns.Turn.TheVariants.{Line as Say, Time 
 use Rattle.ada_explore.specs.declared.turns.Freedom.{Freedom}
 use Rattle.ada_explore.specs.Picks.{may_have, with_pick}
 use Rattle.ada_explore.specs.Scripts.{Rest, rest, scripted, request_at, runs, all_silent, may_come, left_after}
-use Rattle.ada_explore.specs.internal.Sameness.{says_alike_at, same_task, SameRest}
+use Rattle.ada_explore.specs.Sameness.{says_alike_at, same_task, SameRest}
 use Rattle.ada_explore.proofs.naming.Numbers.{one_named, stands_on}
 use Rattle.ada_explore.proofs.naming.Requests.{request_at_alike}
 use Rattle.ada_explore.proofs.naming.Chaining.{same_along, same_less}

@@ -1,0 +1,5 @@
+mod Counting
+mod Held
+mod Keeping
+mod Listing
+mod Stepping

@@ -1,0 +1,2 @@
+-- What only private contracts and proofs cite: no caller meets it.
+pub mod Choosing

@@ -1,0 +1,4 @@
+pub mod Closing
+pub mod Steps
+pub mod Standstill
+pub mod Free
