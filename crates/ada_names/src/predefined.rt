@@ -1,7 +1,6 @@
 //! The names of what is predefined.
 
 use crate::meaning::{LiteralId, Meaning, Predefined};
-use ada_text::is_same_name;
 
 /// The names of the package STANDARD (annex C), with itself.
 pub const OF_STANDARD: [(&[u8], Meaning); 15] = [
@@ -61,20 +60,20 @@ const REST_OF_TEXT_IO: [&[u8]; 6] = [
 pub fn meaning_in(names: &[(&'static [u8], Meaning)], spelling: &[u8]) -> Option<Meaning> {
     names
         .iter()
-        .find(|name| is_same_name(name.0, spelling))
+        .find(|name| name.0.eq_ignore_ascii_case(spelling))
         .map(|name| name.1)
 }
 
 /// Whether TEXT_IO or what it declares has such a name.
 pub fn is_of_text_io(spelling: &[u8]) -> bool {
-    is_same_name(TEXT_IO.0, spelling) || meaning_in(&OF_TEXT_IO, spelling).is_some()
+    TEXT_IO.0.eq_ignore_ascii_case(spelling) || meaning_in(&OF_TEXT_IO, spelling).is_some()
 }
 
 /// Whether TEXT_IO declares such a name that isn't in the subset.
 pub fn is_rest_of_text_io(spelling: &[u8]) -> bool {
     REST_OF_TEXT_IO
         .iter()
-        .any(|name| is_same_name(name, spelling))
+        .any(|name| name.eq_ignore_ascii_case(spelling))
 }
 
 impl Predefined {

@@ -1,6 +1,5 @@
 //! How names are written.
 
-use ada_text::is_same_name;
 use ada_text::tree::Identifier;
 
 /// The bytes of an identifier in its text.
@@ -19,7 +18,7 @@ pub fn is_same(text: &[u8], left: Identifier, right: Identifier) -> bool {
     if is_character(left) {
         left == right
     } else {
-        is_same_name(left, right)
+        left.eq_ignore_ascii_case(right)
     }
 }
 

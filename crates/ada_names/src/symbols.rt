@@ -1,7 +1,6 @@
 //! The names of a text by number.
 
 use crate::spelling::is_character;
-use ada_text::upper;
 use indexmap::IndexSet;
 use std::alloc::{AllocError, Global};
 
@@ -30,7 +29,7 @@ impl Symbols {
         if is_character(spelling) {
             return spelling.to_vec(self.alloc);
         }
-        spelling.iter().map(|byte| upper(*byte)).collect(self.alloc)
+        spelling.to_ascii_uppercase(self.alloc)
     }
 
     /// The number of a name.

@@ -1,6 +1,5 @@
 //! The names of attributes (annex A).
 
-use crate::lexical::is_same_name;
 use crate::tree::expression::Attribute;
 
 /// The attributes of the subset that no reserved word names.
@@ -41,5 +40,5 @@ pub fn attribute_of(name: &[u8]) -> Option<Attribute> {
     NAMED
         .iter()
         .copied()
-        .find(|attribute| is_same_name(name, name_of(*attribute)))
+        .find(|attribute| name.eq_ignore_ascii_case(name_of(*attribute)))
 }

@@ -231,6 +231,156 @@ pub enum Cause {
     /// 11.2.
     #[error("others stands alone, in the last handler")]
     OthersNotLast,
+    /// A value, an object or a range of another type than its place wants (4.4, 5.2, 6.4.1).
+    #[error("this isn't of the type that is wanted here")]
+    WrongType,
+    /// An enumeration literal that overloads others, or an aggregate, whose type nothing determines (8.7).
+    #[error("nothing says of which type this is: qualify it")]
+    UnknownType,
+    /// A type, a procedure, an entry or an exception in place of a value (4.4).
+    #[error("a value is wanted here")]
+    NoValue,
+    /// Something else than a type or a subtype (3.3.2).
+    #[error("the name of a type or a subtype is wanted here")]
+    NoSubtype,
+    /// Something else than a discrete type (3.5), a scalar one for a membership test.
+    #[error("this isn't of a discrete type")]
+    NotDiscrete,
+    /// A bound or a choice whose value isn't static (4.9).
+    #[error("this has to be static")]
+    NotStatic,
+    /// A static value beyond the range of its base type (3.5.4, 4.10).
+    #[error("the value lies outside of the range of its type")]
+    ValueOutside,
+    /// A static divisor of 0 (4.5.5).
+    #[error("the divisor is zero")]
+    DivisionByZero,
+    /// Bounds like -1 .. 1, which are neither literals nor attributes, of no type (3.6.1).
+    #[error("these bounds don't say of which type they are: write INTEGER range before them")]
+    UniversalRange,
+    /// A range with values that its type or subtype doesn't have (3.3.2, 3.5.4).
+    #[error("the range lies outside of its type")]
+    RangeOutside,
+    /// An operator that operands of this type don't have (4.5).
+    #[error("this operator isn't there for operands of this type")]
+    NoOperator,
+    /// 4.5.
+    #[error("of operators on arrays only = and /= are in the subset")]
+    ArrayOperators,
+    /// 4.6.
+    #[error("there is no conversion between these types")]
+    NoConversion,
+    /// An attribute of something that doesn't have it (4.1.4).
+    #[error("the attribute doesn't fit what stands before it")]
+    WrongPrefix,
+    /// COUNT of an entry outside of the body of its task (9.9).
+    #[error("COUNT stands in the body of the entry's task, and in no inner body")]
+    CountElsewhere,
+    /// 3.6.3.
+    #[error("strings are written by PUT and PUT_LINE, and otherwise aren't in the subset")]
+    Strings,
+    /// 3.6.
+    #[error("arrays of arrays aren't in the subset")]
+    ArraysOfArrays,
+    /// An array of more than 65,536 components.
+    #[error("an array has at most 65536 components")]
+    ArrayTooLong,
+    /// A family of more than 65,536 entries.
+    #[error("a family has at most 65536 entries")]
+    FamilyTooLong,
+    /// 3.2.1.
+    #[error("a constant wants a value")]
+    ConstantWithoutValue,
+    /// An initial value, an assignment, a comparison or a constant of tasks (9.2).
+    #[error("tasks are neither constants, nor assigned or compared")]
+    TaskValues,
+    /// A parameter or a result that is a task or an array of tasks.
+    #[error("tasks as parameters aren't in the subset")]
+    TaskParameters,
+    /// A task or an object of a task type that a subprogram declares.
+    #[error("tasks within subprograms aren't in the subset")]
+    TasksInSubprogram,
+    /// A constant, a parameter of mode `in` or of a loop, or no object at all (5.2, 6.4.1).
+    #[error("a variable is wanted here")]
+    NoVariable,
+    /// 6.2.
+    #[error("a parameter of mode out isn't read")]
+    OutParameterRead,
+    /// A component without one index (4.1.1).
+    #[error("a component of an array has one index, by its position")]
+    WrongIndex,
+    /// Something with parentheses behind it that is neither an array, a type, a subprogram nor an entry (4.1, 6.4).
+    #[error("nothing in parentheses may follow this")]
+    NotCallable,
+    /// A statement that calls neither a procedure nor an entry (6.4, 9.5).
+    #[error("a procedure or an entry is wanted here")]
+    NoProcedure,
+    /// A conditional or timed entry call of something else (9.7.2, 9.7.3).
+    #[error("an entry call is wanted here")]
+    NoEntryCall,
+    /// A call with too few or too many arguments (6.4.1).
+    #[error("there are not as many arguments as parameters")]
+    ArgumentCount,
+    /// A name before an arrow that isn't one of the parameters (6.4.1).
+    #[error("there is no parameter of this name")]
+    NoSuchParameter,
+    /// 6.4.1.
+    #[error("this parameter has an argument already")]
+    ArgumentTwice,
+    /// Something by its position after something by its name (4.3, 6.4).
+    #[error("by position nothing stands after what has a name or a choice")]
+    PositionAfterName,
+    /// 9.5.
+    #[error("an entry of a family is called with its index, and a single entry without")]
+    FamilyIndexOfCall,
+    /// An abort statement or an attribute of something else than a task (9.9, 9.10).
+    #[error("a task is wanted here")]
+    NoTask,
+    /// 5.3.
+    #[error("a condition is of type BOOLEAN")]
+    NoCondition,
+    /// A choice with a value that another one has (4.3.2, 5.4).
+    #[error("this choice has a value that another one has")]
+    ChoiceTwice,
+    /// A choice with a value that isn't chosen from (4.3.2, 5.4).
+    #[error("this choice has a value that isn't among those to choose from")]
+    ChoiceOutside,
+    /// A case statement or an aggregate that lacks a value (4.3.2, 5.4).
+    #[error("the choices don't cover all values")]
+    ChoiceMissing,
+    /// 4.3, 5.4.
+    #[error("the choice others stands alone, and last")]
+    OthersNotAlone,
+    /// 4.3.2.
+    #[error("after := an aggregate with others has no other choices")]
+    OthersBesideChoices,
+    /// An aggregate with `others` as an operand (4.3.2).
+    #[error("an aggregate with others stands after :=, return or the name of its type, or as an argument")]
+    OthersAsOperand,
+    /// An aggregate with some values by position and others by choices (4.3).
+    #[error("but for others, all components go by their position, or all by choices")]
+    MixedAggregate,
+    /// An aggregate of another number of values by position (4.3.2).
+    #[error("the array has another number of components")]
+    ComponentCount,
+    /// 5.8.
+    #[error("a return statement of a function wants a value")]
+    ReturnWithoutValue,
+    /// 5.8.
+    #[error("a return statement of a procedure has no value")]
+    ReturnWithValue,
+    /// 6.5.
+    #[error("a function wants a return statement")]
+    NoReturn,
+    /// 6.5.
+    #[error("the parameters of a function are of mode in")]
+    FunctionMode,
+    /// A function in which its task may wait, so that an expression would be left half evaluated.
+    #[error("functions that call entries, delay or abort aren't in the subset")]
+    RequestInFunction,
+    /// A subprogram that calls itself, perhaps through others (6.4).
+    #[error("recursion isn't in the subset")]
+    Recursion,
     /// A node that names no node, or stands outside of the text. No text is known that leads to it.
     #[error("the tree isn't whole")]
     BrokenTree,

@@ -25,24 +25,6 @@ fn is_blank(byte: u8) -> bool {
     byte == b' ' || (9 <= byte && byte <= 13)
 }
 
-/// The letter in upper case; any other byte as it is.
-pub fn upper(byte: u8) -> u8 {
-    if matches!(byte, b'a'..=b'z') {
-        byte - 32
-    } else {
-        byte
-    }
-}
-
-/// Whether two identifiers are the same, in whatever case (2.3).
-pub fn is_same_name(left: &[u8], right: &[u8]) -> bool {
-    left.len() == right.len()
-        && left
-            .iter()
-            .zip(right)
-            .all(|(one, other)| upper(*one) == upper(*other))
-}
-
 /// How many letters, digits and underscores the bytes begin with.
 pub fn inner_length(bytes: &[u8]) -> usize
     ensures { result ≤ length bytes.now }
@@ -110,11 +92,9 @@ pub fn gap_length(bytes: &[u8]) -> usize
 
 /// What an identifier is, which may be a reserved word (2.9).
 pub fn kind_of_name(name: &[u8]) -> Kind {
-    match RESERVED
-        .iter()
-        .copied()
-        .find(|kind| is_same_name(name, kind.spelling().as_bytes()))
-    {
+    match RESERVED.iter().copied().find(|kind| name.eq_ignore_ascii_case(
+        kind.spelling().as_bytes(),
+    )) {
         Some(kind) => kind,
         None => Kind::Identifier,
     }

@@ -18,7 +18,6 @@ mod word;
 
 pub use fault::{Cause, Fault, Trouble, Wanted};
 pub use kind::Kind;
-pub use lexical::{is_same_name, upper};
 pub use place::Place;
 pub use reading::{fault_at, read};
 pub use tree::Tree;

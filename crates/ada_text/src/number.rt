@@ -3,7 +3,6 @@
 ghost use Rattle.std.specs.Prelude.{◌≤◌, ◌<◌, ◌≤ℤ◌, pos, length, IfOk, IfSome};
 
 use crate::fault::Cause;
-use crate::lexical::upper;
 
 /// The value of a digit, of which a letter has 10 to 15 (2.4.2).
 fn digit_value(byte: u8) -> Option<u64>
@@ -76,7 +75,10 @@ fn exponent_value(bytes: &[u8]) -> Result<u64, Cause> {
 fn exponent_start(literal: &[u8]) -> usize
     ensures { result ≤ length literal.now }
 {
-    match literal.iter().position(|byte| upper(*byte) == b'E') {
+    match literal
+        .iter()
+        .position(|byte| byte.to_ascii_uppercase() == b'E')
+    {
         Some(at) => at,
         None => literal.len(),
     }

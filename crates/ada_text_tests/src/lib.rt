@@ -15,6 +15,10 @@ mod limits;
 #[cfg(test)]
 mod misnamed;
 #[cfg(test)]
+mod misstated;
+#[cfg(test)]
+mod mistyped;
+#[cfg(test)]
 mod names;
 #[cfg(test)]
 mod resolving;
@@ -27,6 +31,12 @@ mod tour;
 #[cfg(test)]
 mod trees;
 #[cfg(test)]
+mod types;
+#[cfg(test)]
+mod typing;
+#[cfg(test)]
 mod visibility;
+#[cfg(test)]
+mod welltyped;
 #[cfg(test)]
 mod words;

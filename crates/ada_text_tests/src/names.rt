@@ -31,7 +31,7 @@ pub fn assert_unresolved<R: Abort + AllocGlobal>(
 }
 
 /// Where a name first stands in a line, from 1.
-fn index_in_line(text: &[u8], name: &[u8], line: usize) -> Option<u32> {
+pub fn index_in_line(text: &[u8], name: &[u8], line: usize) -> Option<u32> {
     let mut lines_left = line;
     for (index, byte) in text.iter().enumerate() {
         if lines_left == 1 && text[index..].starts_with(name) {

@@ -13,7 +13,7 @@ fn resolves_the_programs_of_the_tour(rt: HostRuntime) {
     }
 }
 
-const BUFFER: &[u8] = b"with TEXT_IO;
+pub const BUFFER: &[u8] = b"with TEXT_IO;
 procedure BUFFER is
    SIZE : constant INTEGER := 3;
    subtype INDEX is INTEGER range 0 .. SIZE - 1;

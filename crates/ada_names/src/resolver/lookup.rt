@@ -7,7 +7,7 @@ use crate::predefined::{is_of_text_io, is_rest_of_text_io};
 use crate::spelling::{is_same, spelling};
 use crate::symbols::Symbol;
 use ada_text::tree::{BodyId, DeclarationForm, DeclarationId, Identifier, TypeDefinition};
-use ada_text::{Cause, Trouble, is_same_name};
+use ada_text::{Cause, Trouble};
 
 impl<'a> Resolver<'a> {
     /// The bytes of a name.
@@ -39,7 +39,7 @@ impl<'a> Resolver<'a> {
             return Cause::UsedBeforeDeclaration;
         }
         let spelling = self.spelling(name);
-        if is_same_name(spelling, b"FLOAT") {
+        if spelling.eq_ignore_ascii_case(b"FLOAT") {
             Cause::RealTypes
         } else if is_of_text_io(spelling) {
             Cause::TextIoNotNamed

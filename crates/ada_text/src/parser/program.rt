@@ -5,14 +5,13 @@ ghost use Rattle.std.specs.Prelude.{◌<◌, ◌≤◌, OnOk};
 use super::{DEEPEST, Parser};
 use crate::fault::{Cause, Trouble, Wanted};
 use crate::kind::Kind;
-use crate::lexical::is_same_name;
 use crate::tree::expression::Identifier;
 use crate::tree::{ContextClause, Tree};
 
 impl<'a> Parser<'a> {
     /// Whether a name is that of the package TEXT_IO (14.3).
     fn is_text_io(&self, name: Identifier) -> bool {
-        is_same_name(self.spelling(name), b"TEXT_IO")
+        self.spelling(name).eq_ignore_ascii_case(b"TEXT_IO")
     }
 
     /// Takes the name TEXT_IO and a semicolon, after `with` or `use`.

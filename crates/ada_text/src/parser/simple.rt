@@ -5,7 +5,6 @@ ghost use Rattle.std.specs.Prelude.{◌<◌, ◌≤◌, OnOk};
 use super::{DEEPEST, Parser};
 use crate::fault::{Cause, Trouble, Wanted};
 use crate::kind::Kind;
-use crate::lexical::is_same_name;
 use crate::tree::expression::{ExpressionId, Identifier};
 use crate::tree::statement::{Iteration, StatementForm, StatementId};
 
@@ -248,7 +247,10 @@ impl<'a> Parser<'a> {
     {
         let at = self.at();
         let found = self.identifier()?;
-        if is_same_name(self.spelling(found), self.spelling(name)) {
+        if self
+            .spelling(found)
+            .eq_ignore_ascii_case(self.spelling(name))
+        {
             Ok(())
         } else {
             Err(Trouble {
